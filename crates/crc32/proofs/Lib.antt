@@ -1,0 +1,5 @@
+pub mod Xor
+pub mod Register
+pub mod Entries
+pub mod Joined
+pub mod Bound

@@ -1,0 +1,56 @@
+-- The two outcomes of a read and of a write at a cursor, at every width.
+-- Assumes nothing.
+use mathlib.Core.Path.{_≡_, refl, sym, ap, _∙_}
+use mathlib.Core.Bool.{Bool, true, false}
+use mathlib.Core.List.{List, []}
+use Prim.Native.Nat.{ℕ, _+_, _≤_, _<_}
+use native.Mathlib.Omega.{arith}
+use lib.ListN.{length}
+use borrow.Author.Tests.{le-leb, lt-leb}
+use Rattle.fields.specs.Fields.{pick, le, part, fits, put}
+use Rattle.fields.specs.Cursors.{moved, taken, runAt, putAt, afterPut}
+use Rattle.fields.specs.declared.Cursor.{Cursor}
+
+-- a test that is known picks
+pub picked {ℓ} : {A : Type ℓ} (t : Bool) (a b : A) → t ≡ true → a ≡ pick t a b
+picked t a b e = rw e
+
+pub passed {ℓ} : {A : Type ℓ} (t : Bool) (a b : A) → t ≡ false → b ≡ pick t a b
+passed t a b e = rw e
+
+-- n bytes stand at the cursor
+module _ (n : ℕ) (s : List ℕ) (c : Cursor) (h : c .at + n ≤ length s) where
+  there : fits n s (c .at) ≡ true
+  there = le-leb (c .at + n) (length s) h
+
+  pub takes : {A : Type 0} (value : ℕ → Cursor → A) (nothing : A) (x : ℕ) → x ≡ le n s (c .at) → value x (moved n c) ≡ taken n (value (le n s (c .at))) nothing s c
+  takes value nothing x e = ap (λ (y : ℕ). value y (moved n c)) e ∙ picked (fits n s (c .at)) (value (le n s (c .at)) (moved n c)) nothing there
+
+  pub takes-run : {A : Type 0} (whole : Cursor → A) (nothing : A) → whole (moved n c) ≡ taken n whole nothing s c
+  takes-run whole nothing = picked (fits n s (c .at)) (whole (moved n c)) nothing there
+
+  pub hands-run : part n s (c .at) ≡ runAt n s c
+  hands-run = picked (fits n s (c .at)) (part n s (c .at)) [] there
+
+  pub puts : (v l : List ℕ) → length v ≡ n → l ≡ put v s (c .at) → (moved n c ≡ afterPut n s c) × (l ≡ putAt v s c)
+  puts v l k e = (
+    picked (fits n s (c .at)) (moved n c) c there,
+    e ∙ picked (fits (length v) s (c .at)) (put v s (c .at)) s (ap (λ (m : ℕ). fits m s (c .at)) k ∙ there),
+  )
+
+-- fewer do
+module _ (n : ℕ) (s : List ℕ) (c : Cursor) (h : length s < c .at + n) where
+  short : fits n s (c .at) ≡ false
+  short = lt-leb (c .at + n) (length s) h
+
+  pub takes-nothing : {A : Type 0} (whole : Cursor → A) (nothing : A) → nothing ≡ taken n whole nothing s c
+  takes-nothing whole nothing = passed (fits n s (c .at)) (whole (moved n c)) nothing short
+
+  pub hands-nothing : [] ≡ runAt n s c
+  hands-nothing = passed (fits n s (c .at)) (part n s (c .at)) [] short
+
+  pub puts-nothing : (v : List ℕ) → length v ≡ n → (c ≡ afterPut n s c) × (s ≡ putAt v s c)
+  puts-nothing v k = (
+    passed (fits n s (c .at)) (moved n c) c short,
+    passed (fits (length v) s (c .at)) (put v s (c .at)) s (ap (λ (m : ℕ). fits m s (c .at)) k ∙ short),
+  )

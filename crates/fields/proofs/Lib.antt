@@ -1,0 +1,5 @@
+pub mod Parts
+pub mod Back
+pub mod Widths
+pub mod Put
+pub mod Cursored

@@ -1,0 +1,116 @@
+-- Bytes put in place of others: what was put is read back, and nothing else changes.
+-- Assumes nothing.
+use mathlib.Core.Path.{_≡_, refl, sym, ap, ap₂, _∙_, subst}
+use mathlib.Core.List.{List, [], _∷_, _++_, append-assoc}
+use mathlib.Core.Logic.{_⊎_, ⊎-elim}
+use Prim.Native.Nat.{ℕ, zero, suc, _+_, _*_, _-_, _/_, _%_, _^_, _≤_, _<_}
+use native.Mathlib.Nat.{add-zero, add-suc, suc-add, add-assoc}
+use native.Mathlib.Omega.{arith}
+use lib.ListN.{length, getD, take, drop, set, length-append, length-take, length-drop, List·getD-append}
+use lib.Seq.{paste, take-length, sets, sets-eq, length-sets, take-at, drop-at, length-take-le, getD-take, getD-drop, getD-append-add, take-append-le, drop-append-le, drop-drop, take-take}
+use Rattle.fields.specs.Fields.{le, leBytes, part, put}
+use Rattle.fields.proofs.Back.{le-bytes}
+use Rattle.fields.proofs.Widths.{leBytes-length, leBytes-cut, leBytes-add}
+
+-- stores one after the other put the bytes
+pub sets-put : (v s : List ℕ) (p : ℕ) → p + length v ≤ length s → sets s p v ≡ put v s p
+unfolding put
+sets-put v s p h = sets-eq v s p h
+
+-- what stores one after the other leave
+pub stores-put : (l v s : List ℕ) (p : ℕ) → p + length v ≤ length s → l ≡ sets s p v → l ≡ put v s p
+stores-put l v s p h e = e ∙ sets-put v s p h
+
+-- and what a copy, byte by byte, leaves
+pub paste-put : (v s : List ℕ) (p : ℕ) → paste s p v (length v) ≡ put v s p
+unfolding put
+paste-put v s p = ap (λ (l : List ℕ). take p s ++ l ++ drop (p + length v) s) (take-length v)
+
+pub put-length : (v s : List ℕ) (p : ℕ) → p + length v ≤ length s → length (put v s p) ≡ length s
+put-length v s p h = ap length (sym (sets-put v s p h)) ∙ length-sets s p v
+
+-- ---- nothing outside changes
+
+pub put-before : (v s : List ℕ) (p k : ℕ) → p ≤ length s → k < p → getD (put v s p) k 0 ≡ getD s k 0
+unfolding put
+put-before v s p k h l =
+    rw append-assoc
+    (List·getD-append (take p s) (v ++ drop (p + length v) s) 0 k (omega (arith, length-take-le p s h)) ∙ getD-take p s k 0 l)
+
+pub put-behind : (v s : List ℕ) (p k : ℕ) → p ≤ length s → p + length v ≤ k → getD (put v s p) k 0 ≡ getD s k 0
+unfolding put
+put-behind v s p k h l =
+    let n = length v in
+    let front : List ℕ = take p s ++ v in
+    let size : length front ≡ p + n = length-append (take p s) v ∙ ap (λ (m : ℕ). m + n) (length-take-le p s h) in
+    let there : length front + (k - (p + n)) ≡ k = omega arith in
+    let back : p + n + (k - (p + n)) ≡ k = omega arith in
+    ap (λ (m : ℕ). getD (front ++ drop (p + n) s) m 0) (sym there)
+    ∙ getD-append-add front (drop (p + n) s) (k - (p + n)) 0
+    ∙ getD-drop (p + n) s (k - (p + n)) 0
+    ∙ ap (λ (m : ℕ). getD s m 0) back
+
+-- a field that stands before what was put, or behind it
+pub le-before : (n : ℕ) (v s : List ℕ) (p q : ℕ) → p ≤ length s → q + n ≤ p → le n (put v s p) q ≡ le n s q
+unfolding le
+le-before zero v s p q h w = refl
+le-before (suc n) v s p q h w = ap₂ (λ (b r : ℕ). b + 256 * r) (put-before v s p q h (omega arith)) (le-before n v s p (suc q) h (omega arith))
+
+pub le-behind : (n : ℕ) (v s : List ℕ) (p q : ℕ) → p ≤ length s → p + length v ≤ q → le n (put v s p) q ≡ le n s q
+unfolding le
+le-behind zero v s p q h w = refl
+le-behind (suc n) v s p q h w = ap₂ (λ (b r : ℕ). b + 256 * r) (put-behind v s p q h w) (le-behind n v s p (suc q) h (omega arith))
+
+-- ---- what was put is read back
+
+pub put-part : (v s : List ℕ) (p : ℕ) → p ≤ length s → part (length v) (put v s p) p ≡ v
+unfolding put
+put-part v s p h =
+    rw append-assoc
+    (ap (take (length v)) (drop-at (take p s) (v ++ drop (p + length v) s) p (length-take-le p s h)) ∙ take-at v (drop (p + length v) s) (length v) refl)
+
+-- a field's bytes are those of the part that it stands in
+le-within : (m n : ℕ) (s : List ℕ) (p k : ℕ) → k + m ≤ n → le m (part n s p) k ≡ le m s (p + k)
+unfolding le
+le-within zero n s p k w = refl
+le-within (suc m) n s p k w =
+    ap₂ (λ (b r : ℕ). b + 256 * r)
+    (getD-take n (drop p s) k 0 (omega arith) ∙ getD-drop p s k 0)
+    (le-within m n s p (suc k) (omega arith) ∙ ap (le m s) (add-suc p k))
+
+pub le-part : (n : ℕ) (s : List ℕ) (p : ℕ) → le n (part n s p) 0 ≡ le n s p
+le-part n s p = le-within n n s p 0 (omega arith) ∙ ap (le n s) (add-zero p)
+
+pub put-le : (n x : ℕ) (s : List ℕ) (p : ℕ) → p ≤ length s → le n (put (leBytes n x) s p) p ≡ x % 256 ^ n
+put-le n x s p h =
+    let there : part n (put (leBytes n x) s p) p ≡ leBytes n x =
+    ap (λ (m : ℕ). part m (put (leBytes n x) s p) p) (sym (leBytes-length n x)) ∙ put-part (leBytes n x) s p h in
+    sym (le-part n (put (leBytes n x) s p) p) ∙ ap (λ (l : List ℕ). le n l 0) there ∙ le-bytes n x
+
+sets-append : (a b l : List ℕ) (i : ℕ) → sets l i (a ++ b) ≡ sets (sets l i a) (i + length a) b
+sets-append [] b l i = rw add-zero
+sets-append (x ∷ a) b l i = sets-append a b (set l i x) (suc i) ∙ ap (λ (k : ℕ). sets (sets l i (x ∷ a)) k b) (suc-add i (length a) ∙ sym (add-suc i (length a)))
+
+-- two runs, one behind the other, are one
+pub put-put : (a b s : List ℕ) (p : ℕ) → p + length a + length b ≤ length s → put b (put a s p) (p + length a) ≡ put (a ++ b) s p
+put-put a b s p h =
+    let one : p + length a ≤ length s = omega arith in
+    let two : p + length a + length b ≤ length (sets s p a) = rw length-sets h in
+    let both : p + length (a ++ b) ≤ length s = rw length-append (omega arith) in
+    ap (λ (l : List ℕ). put b l (p + length a)) (sym (sets-put a s p one))
+    ∙ sym (sets-put b (sets s p a) (p + length a) two)
+    ∙ sym (sets-append a b s p)
+    ∙ sets-put (a ++ b) s p both
+
+-- a number that is put in two fields, the lower one first
+pub put-halves : (n m x : ℕ) (s l t : List ℕ) (p : ℕ) → p + n + m ≤ length s → l ≡ put (leBytes n (x % 256 ^ n)) s p → t ≡ put (leBytes m (x / 256 ^ n)) l (p + n)
+    → t ≡ put (leBytes (n + m) x) s p
+put-halves n m x s l t p h e f =
+    let low = leBytes n x in
+    let high = leBytes m (x / 256 ^ n) in
+    let size : length low ≡ n = leBytes-length n x in
+    let room : p + length low + length high ≤ length s = omega (arith, leBytes-length m (x / 256 ^ n)) in
+    f ∙ ap (λ (y : List ℕ). put high y (p + n)) (e ∙ ap (λ (b : List ℕ). put b s p) (leBytes-cut n x))
+    ∙ ap (λ (k : ℕ). put high (put low s p) (p + k)) (sym size)
+    ∙ put-put low high s p room
+    ∙ ap (λ (b : List ℕ). put b s p) (sym (leBytes-add n m x))

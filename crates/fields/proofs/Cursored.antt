@@ -6,7 +6,7 @@ use mathlib.Core.List.{List, []}
 use Prim.Native.Nat.{ℕ, _+_, _≤_, _<_}
 use native.Mathlib.Omega.{arith}
 use lib.ListN.{length}
-use borrow.Author.Tests.{le-leb, lt-leb}
+use borrow.Author.Tests.{le-leb, lt-leb, leb-true}
 use Rattle.fields.specs.Fields.{pick, le, part, fits, put}
 use Rattle.fields.specs.Cursors.{moved, taken, runAt, putAt, afterPut}
 use Rattle.fields.specs.declared.Cursor.{Cursor}
@@ -54,3 +54,17 @@ module _ (n : ℕ) (s : List ℕ) (c : Cursor) (h : length s < c .at + n) where
     passed (fits n s (c .at)) (moved n c) c short,
     passed (fits (length v) s (c .at)) (put v s (c .at)) s (ap (λ (m : ℕ). fits m s (c .at)) k ∙ short),
   )
+
+-- ---- the list after a write at a cursor: with the bytes put, or as it was
+
+-- what holds of both holds of the list after the write
+pub either : (P : List ℕ → Type 0) (v s : List ℕ) (c : Cursor) → P s → (c .at + length v ≤ length s → P (put v s (c .at))) → P (putAt v s c)
+either P v s c same changed = go (fits (length v) s (c .at)) refl
+  where
+    go : (b : Bool) → fits (length v) s (c .at) ≡ b → P (pick b (put v s (c .at)) s)
+    go true e = changed (leb-true (c .at + length v) (length s) e)
+    go false e = same
+
+-- a write that fits puts its bytes
+pub fitted : (v s : List ℕ) (c : Cursor) → fits (length v) s (c .at) ≡ true → putAt v s c ≡ put v s (c .at)
+fitted v s c e = sym (picked (fits (length v) s (c .at)) (put v s (c .at)) s e)

@@ -3,3 +3,4 @@ pub mod Back
 pub mod Widths
 pub mod Put
 pub mod Cursored
+pub mod Laws

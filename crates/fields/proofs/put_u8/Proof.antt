@@ -1,36 +1,29 @@
-use native.Mathlib.Omega.{arith}
-use lib.ListN.{set}
-use native.Mathlib.Nat.{mod-eq-of-lt}
+-- `fields::put_u8` meets its contract: one store puts the byte, where it fits.
+-- Assumes nothing.
 use mathlib.Core.Path.{sym, ap}
-use Prim.Native.Nat.{ℕ}
+use native.Mathlib.Omega.{arith}
+use native.Mathlib.Nat.{mod-eq-of-lt}
+use lib.ListN.{set}
+use borrow.Author.Needs.{needs}
 use Rattle.fields.specs.Fields.{leBytes}
 use Rattle.fields.proofs.Put.{stores-put}
 use Rattle.fields.proofs.Widths.{leBytes-length}
 use Rattle.fields.proofs.Cursored.{puts, puts-nothing}
-use borrow.Author.Needs.{needs}
 use Rattle.fields.proofs.put_u8.Statement.{statement}
 use Rattle.fields.proofs.put_u8.Tie as tie
-use Rattle.fields.proofs.put_u8.Reads as reads
-use Rattle.fields.proofs.put_u8.Lts as lts
-use Rattle.fields.proofs.room.Reads as room-reads
 
--- src/lib.rt:156:13
 room-requires : tie.Need-room-requires
 room-requires c κs = search needs
 
--- src/lib.rt:157:9
 slice-write-out : tie.Need-slice-write-out
 slice-write-out c = search needs
 
--- src/lib.rt:158:29
 add-t9 : tie.Need-add-t9
 add-t9 c = search needs
 
--- src/lib.rt:158:9
 same-length : tie.Need-same-length
 same-length c = search needs
 
--- src/lib.rt:158:9
 returns : tie.Need-returns
 unfolding leBytes
 returns c =
@@ -39,7 +32,6 @@ returns c =
     let stored = stores-put (set (a .out .now) (a .c .at) (a .x)) (leBytes 1 (a .x)) (a .out .now) (a .c .at) (omega arith) (ap (set (a .out .now) (a .c .at)) byte) in
     puts 1 (a .out .now) (a .c) (omega arith) (leBytes 1 (a .x)) (set (a .out .now) (a .c .at) (a .x)) (leBytes-length 1 (a .x)) stored
 
--- src/lib.rt:151:1
 returns-2 : tie.Need-returns-2
 returns-2 c =
     let a = c .before .before .before .args in

@@ -1,71 +1,57 @@
-use Prim.Native.Nat.{ℕ, _+_, _-_}
+-- `fields::run` meets its contract: the part at the cursor, where the run is whole.
+-- Assumes nothing.
 use mathlib.Core.Path.{_≡_, ap, _∙_}
-use Rattle.fields.specs.Fields.{part}
-use Rattle.fields.proofs.Cursored.{hands-run, hands-nothing}
+use Prim.Native.Nat.{ℕ, _+_, _-_}
 use native.Mathlib.Omega.{arith}
 use borrow.Author.Needs.{needs}
+use Rattle.fields.specs.Fields.{part}
+use Rattle.fields.proofs.Cursored.{hands-run, hands-nothing}
 use Rattle.fields.proofs.run.Statement.{statement}
 use Rattle.fields.proofs.run.Tie as tie
-use Rattle.fields.proofs.run.Reads as reads
-use Rattle.fields.proofs.run.Lts as lts
 
--- src/lib.rt:124:16
 sub-result : tie.Need-sub-result
 sub-result c = search needs
 
--- src/lib.rt:124:16
 part-result-start : tie.Need-part-result-start
 part-result-start c = search needs
 
--- src/lib.rt:124:16
 part-result-end : tie.Need-part-result-end
 part-result-end c = search needs
 
--- src/lib.rt:124:9
 returns : tie.Need-returns
 returns c =
     let a = c .before .before .args in
     hands-nothing (a .n) (a .s .now) (a .c) (omega arith)
 
--- src/lib.rt:126:8
 sub-if2 : tie.Need-sub-if2
 sub-if2 c = search needs
 
--- src/lib.rt:127:16
 sub-result-2 : tie.Need-sub-result-2
 sub-result-2 c = search needs
 
--- src/lib.rt:127:16
 part-result-start-2 : tie.Need-part-result-start-2
 part-result-start-2 c = search needs
 
--- src/lib.rt:127:16
 part-result-end-2 : tie.Need-part-result-end-2
 part-result-end-2 c = search needs
 
--- src/lib.rt:127:9
 returns-2 : tie.Need-returns-2
 returns-2 c =
     let a = c .before .before .before .args in
     hands-nothing (a .n) (a .s .now) (a .c) (omega arith)
 
--- src/lib.rt:129:15
 add-end : tie.Need-add-end
 add-end c = search needs
 
--- src/lib.rt:130:5
 sub-result-3 : tie.Need-sub-result-3
 sub-result-3 c = search needs
 
--- src/lib.rt:130:5
 part-result-start-3 : tie.Need-part-result-start-3
 part-result-start-3 c = search needs
 
--- src/lib.rt:130:5
 part-result-end-3 : tie.Need-part-result-end-3
 part-result-end-3 c = search needs
 
--- src/lib.rt:119:1
 returns-3 : tie.Need-returns-3
 returns-3 c =
     let a = c .before .before .before .args in

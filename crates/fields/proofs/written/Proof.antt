@@ -1,22 +1,17 @@
+-- `fields::written` meets its contract: the run of the bytes before the cursor, from the front.
+-- Assumes nothing.
 use mathlib.Core.Path.{ap, _∙_}
-use Rattle.fields.specs.Cursors.{runAt}
 use borrow.Author.Needs.{needs}
+use Rattle.fields.specs.Cursors.{runAt}
 use Rattle.fields.proofs.written.Statement.{statement}
 use Rattle.fields.proofs.written.Tie as tie
-use Rattle.fields.proofs.written.Reads as reads
-use Rattle.fields.proofs.written.Lts as lts
-use Rattle.fields.proofs.front.Reads as front-reads
-use Rattle.fields.proofs.run.Reads as run-reads
 
--- src/lib.rt:148:12
 front-requires : tie.Need-front-requires
 front-requires c κs = search needs
 
--- src/lib.rt:148:5
 run-requires : tie.Need-run-requires
 run-requires c κs = search needs
 
--- src/lib.rt:145:1
 returns : tie.Need-returns
 returns c =
     let a = c .before .before .before .args in

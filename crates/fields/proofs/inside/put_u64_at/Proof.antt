@@ -1,37 +1,29 @@
-use Rattle.fields.proofs.Put.{put-halves}
+-- `fields::inside::put_u64_at` meets its contract: a number of eight bytes is put in two fields of four.
+-- Assumes nothing.
 use native.Mathlib.Omega.{arith}
 use borrow.Author.Needs.{needs}
+use Rattle.fields.proofs.Put.{put-halves}
 use Rattle.fields.proofs.inside.put_u64_at.Statement.{statement}
 use Rattle.fields.proofs.inside.put_u64_at.Tie as tie
-use Rattle.fields.proofs.inside.put_u64_at.Reads as reads
-use Rattle.fields.proofs.inside.put_u64_at.Lts as lts
-use Rattle.fields.proofs.inside.put_u32_at.Reads as put-u32-at-reads
 
--- src/inside.rt:59:25
 cast-put-u32-at : tie.Need-cast-put-u32-at
 cast-put-u32-at c = search needs
 
--- src/inside.rt:59:5
 put-u32-at-requires : tie.Need-put-u32-at-requires
 put-u32-at-requires c κs = search needs
 
--- src/inside.rt:60:21
 add-put-u32-at : tie.Need-add-put-u32-at
 add-put-u32-at c = search needs
 
--- src/inside.rt:60:29
 cast-put-u32-at-2 : tie.Need-cast-put-u32-at-2
 cast-put-u32-at-2 c = search needs
 
--- src/inside.rt:60:5
 put-u32-at-requires-2 : tie.Need-put-u32-at-requires-2
 put-u32-at-requires-2 c κs = search needs
 
--- src/inside.rt:55:1
 same-length : tie.Need-same-length
 same-length c = search needs
 
--- src/inside.rt:55:1
 returns : tie.Need-returns
 returns c =
     let first = c .before .before .before .before .before .before in

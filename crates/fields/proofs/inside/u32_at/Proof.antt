@@ -1,82 +1,63 @@
+-- `fields::inside::u32_at` meets its contract: four bytes spell the number.
+-- Assumes nothing.
 use native.Mathlib.Numerals.{towards-numerals}
 use native.Mathlib.Omega.{arith}
-use Rattle.fields.specs.Fields.{le}
 use borrow.Author.Needs.{needs}
+use Rattle.fields.specs.Fields.{le}
 use Rattle.fields.proofs.inside.u32_at.Statement.{statement}
 use Rattle.fields.proofs.inside.u32_at.Tie as tie
-use Rattle.fields.proofs.inside.u32_at.Reads as reads
-use Rattle.fields.proofs.inside.u32_at.Lts as lts
-use Rattle.fields.proofs.inside.wide.Reads as wide-reads
 
--- src/inside.rt:25:10
 shared-slice-read-wide : tie.Need-shared-slice-read-wide
 shared-slice-read-wide c = search needs
 
--- src/inside.rt:25:5
 wide-requires : tie.Need-wide-requires
 wide-requires c κs = search needs
 
--- src/inside.rt:25:26
 add-wide : tie.Need-add-wide
 add-wide c = search needs
 
--- src/inside.rt:25:24
 shared-slice-read-wide-2 : tie.Need-shared-slice-read-wide-2
 shared-slice-read-wide-2 c = search needs
 
--- src/inside.rt:25:19
 wide-requires-2 : tie.Need-wide-requires-2
 wide-requires-2 c κs = search needs
 
--- src/inside.rt:25:19
 mul-result : tie.Need-mul-result
 mul-result c = search needs
 
--- src/inside.rt:25:5
 add-result : tie.Need-add-result
 add-result c = search needs
 
--- src/inside.rt:25:50
 add-wide-2 : tie.Need-add-wide-2
 add-wide-2 c = search needs
 
--- src/inside.rt:25:48
 shared-slice-read-wide-3 : tie.Need-shared-slice-read-wide-3
 shared-slice-read-wide-3 c = search needs
 
--- src/inside.rt:25:43
 wide-requires-3 : tie.Need-wide-requires-3
 wide-requires-3 c κs = search needs
 
--- src/inside.rt:25:43
 mul-result-2 : tie.Need-mul-result-2
 mul-result-2 c = search needs
 
--- src/inside.rt:25:5
 add-result-2 : tie.Need-add-result-2
 add-result-2 c = search needs
 
--- src/inside.rt:25:76
 add-wide-3 : tie.Need-add-wide-3
 add-wide-3 c = search needs
 
--- src/inside.rt:25:74
 shared-slice-read-wide-4 : tie.Need-shared-slice-read-wide-4
 shared-slice-read-wide-4 c = search needs
 
--- src/inside.rt:25:69
 wide-requires-4 : tie.Need-wide-requires-4
 wide-requires-4 c κs = search needs
 
--- src/inside.rt:25:69
 mul-result-3 : tie.Need-mul-result-3
 mul-result-3 c = search needs
 
--- src/inside.rt:25:5
 add-result-3 : tie.Need-add-result-3
 add-result-3 c = search needs
 
--- src/inside.rt:21:1
 returns : tie.Need-returns
 unfolding le
 returns c = simp towards-numerals (omega arith)

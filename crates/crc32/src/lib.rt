@@ -11,8 +11,7 @@ ghost use Rattle.crc32.specs.Crc.{crcFrom, crcOf, crcOn};
 pub mod inside;
 mod table;
 
-// The register at the start, and what the register at the end is complemented by.
-const ONES: u32 = 0xffff_ffff;
+use crate::inside::ONES;
 
 // The register after the bytes, from the register before them. The table is stored once a call, not once a byte.
 pub fn update(state: u32, bytes: &[u8]) -> u32
@@ -26,7 +25,8 @@ pub fn update(state: u32, bytes: &[u8]) -> u32
 pub fn crc32(bytes: &[u8]) -> u32
     ensures { λ r. ⌜ r ≡ crcOf (now (bytes .entry)) ⌝ }
 {
-    update(ONES, bytes) ^ ONES
+    let table = inside::entries();
+    inside::sum(&table, bytes)
 }
 
 // From the CRC-32 of some bytes, that of the same with more bytes after them.

@@ -1,12 +1,12 @@
 -- Bytes put in place of others: what was put is read back, and nothing else changes.
 -- Assumes nothing.
 use mathlib.Core.Path.{_≡_, refl, sym, ap, ap₂, _∙_, subst}
-use mathlib.Core.List.{List, [], _∷_, _++_, append-assoc}
+use mathlib.Core.List.{List, [], _∷_, _++_, append-assoc, append-nil}
 use mathlib.Core.Logic.{_⊎_, ⊎-elim}
 use Prim.Native.Nat.{ℕ, zero, suc, _+_, _*_, _-_, _/_, _%_, _^_, _≤_, _<_}
-use native.Mathlib.Nat.{add-zero, add-suc, suc-add, add-assoc}
+use native.Mathlib.Nat.{add-zero, add-suc, suc-add, zero-add}
 use native.Mathlib.Omega.{arith}
-use lib.ListN.{length, getD, take, drop, set, length-append, length-take, length-drop, List·getD-append}
+use lib.ListN.{length, getD, take, drop, set, replicate, length-append, length-replicate, replicate-append-replicate, drop-of-length-le, List·getD-append}
 use lib.Seq.{paste, take-length, sets, sets-eq, length-sets, take-at, drop-at, length-take-le, getD-take, getD-drop, getD-append-add, take-append-le, drop-append-le, drop-drop, take-take}
 use Rattle.fields.specs.Fields.{le, leBytes, part, put}
 use Rattle.fields.proofs.Back.{le-bytes}
@@ -114,3 +114,26 @@ put-halves n m x s l t p h e f =
     ∙ ap (λ (k : ℕ). put high (put low s p) (p + k)) (sym size)
     ∙ put-put low high s p room
     ∙ ap (λ (b : List ℕ). put b s p) (sym (leBytes-add n m x))
+
+-- bytes behind those that were put
+pub put-next : (a b s l t : List ℕ) (p k n : ℕ) → p + length a ≡ k → length b ≡ n → k + n ≤ length s → l ≡ put a s p → t ≡ put b l k → t ≡ put (a ++ b) s p
+put-next a b s l t p k n ea eb h e f =
+    let room : p + length a + length b ≤ length s = omega arith in
+    f ∙ ap (λ (y : List ℕ). put b y k) e ∙ ap (put b (put a s p)) (sym ea) ∙ put-put a b s p room
+
+-- bytes in place of all that there are
+pub put-whole : (v s : List ℕ) → length s ≤ length v → put v s 0 ≡ v
+unfolding put
+put-whole v s h = rw (zero-add, drop-of-length-le s h) (append-nil v)
+
+-- one store puts one byte
+pub set-put : (s : List ℕ) (p x : ℕ) → p < length s → set s p x ≡ put (x ∷ []) s p
+set-put s p x h = sets-put (x ∷ []) s p (omega arith)
+
+-- a zero behind zeros
+pub put-zero : (s l : List ℕ) (p i : ℕ) → p + i < length s → l ≡ put (replicate i 0) s p → set l (p + i) 0 ≡ put (replicate (i + 1) 0) s p
+put-zero s l p i h e =
+    let size : length (replicate {A = ℕ} i 0) ≡ i = length-replicate i 0 in
+    let whole : length l ≡ length s = ap length e ∙ put-length (replicate i 0) s p (omega arith) in
+    put-next (replicate i 0) (0 ∷ []) s l (set l (p + i) 0) p (p + i) 1 (ap (λ (k : ℕ). p + k) size) refl (omega arith) e (set-put l (p + i) 0 (omega arith))
+    ∙ ap (λ (v : List ℕ). put v s p) (replicate-append-replicate i 1 0)

@@ -1,7 +1,7 @@
 // For the layers above, where the caller has shown that the field fits: no user needs this module.
 ghost use mathlib.Core.Path.{_≡_};
 ghost use Prim.Native.Nat.{_+_, _≤_, _<_};
-ghost use lib.ListN.{length};
+ghost use lib.ListN.{length, replicate};
 ghost use Rattle.fields.specs.Fields.{le, leBytes, put};
 
 // A byte, widened: its bound goes with it, so that no sum asks for it.
@@ -68,6 +68,18 @@ pub fn put_run_at(out: &mut [u8], at: usize, bytes: &[u8])
     let mut i = 0;
     while 0 < bytes.len() - i {
         out[at + i] = bytes[i];
+        i += 1;
+    }
+}
+
+// Zeros, n of them.
+pub fn put_zeros_at(out: &mut [u8], at: usize, n: usize)
+    requires { ⌜ at + n ≤ length (now out) ⌝ }
+    ensures { λ _. ⌜ now (out .exit) ≡ put (replicate n 0) (now (out .entry)) at ⌝ }
+{
+    let mut i = 0;
+    while 0 < n - i {
+        out[at + i] = 0;
         i += 1;
     }
 }

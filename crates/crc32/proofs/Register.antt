@@ -1,8 +1,8 @@
 -- The register is linear over the exclusive or, so eight shifts of it are its upper bits, moved down, and what eight shifts make of its lowest byte.
 -- Assumes nothing.
 use mathlib.Core.Path.{_≡_, refl, sym, ap, ap₂, _∙_}
-use Prim.Native.Nat.{ℕ, zero, suc, _+_, _*_, _/_, _%_, _^_, _<_}
-use native.Mathlib.Nat.{mul-one, mod-lt, div-eq-of-lt, add-comm, suc-add, zero-add}
+use Prim.Native.Nat.{ℕ, zero, suc, _*_, _/_, _%_, _^_, _<_}
+use native.Mathlib.Nat.{mul-one, mod-lt, div-eq-of-lt}
 use lib.Arith.{lt-one}
 use lib.Pow.{pow-pos, split}
 use lib.Bits.{bitXor, differ, xor-shr, xor-zero-r, xor-shifted, shifted-half, shifted-even}

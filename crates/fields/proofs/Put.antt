@@ -1,13 +1,12 @@
 -- Bytes put in place of others: what was put is read back, and nothing else changes.
 -- Assumes nothing.
-use mathlib.Core.Path.{_≡_, refl, sym, ap, ap₂, _∙_, subst}
+use mathlib.Core.Path.{_≡_, refl, sym, ap, ap₂, _∙_}
 use mathlib.Core.List.{List, [], _∷_, _++_, append-assoc, append-nil}
-use mathlib.Core.Logic.{_⊎_, ⊎-elim}
 use Prim.Native.Nat.{ℕ, zero, suc, _+_, _*_, _-_, _/_, _%_, _^_, _≤_, _<_}
 use native.Mathlib.Nat.{add-zero, add-suc, suc-add, zero-add}
 use native.Mathlib.Omega.{arith}
 use lib.ListN.{length, getD, take, drop, set, replicate, length-append, length-replicate, replicate-append-replicate, drop-of-length-le, List·getD-append}
-use lib.Seq.{paste, take-length, sets, sets-eq, length-sets, take-at, drop-at, length-take-le, getD-take, getD-drop, getD-append-add, take-append-le, drop-append-le, drop-drop, take-take}
+use lib.Seq.{paste, take-length, sets, sets-eq, length-sets, take-at, drop-at, length-take-le, getD-take, getD-drop, getD-append-add}
 use Rattle.fields.specs.Fields.{le, leBytes, part, put}
 use Rattle.fields.proofs.Back.{le-bytes}
 use Rattle.fields.proofs.Widths.{leBytes-length, leBytes-cut, leBytes-add}

@@ -1,7 +1,7 @@
 -- Numbers as bytes at two widths: a field of n + m bytes is one of n and one of m behind it.
 -- Assumes nothing.
 use mathlib.Core.Path.{_≡_, refl, sym, ap, _∙_}
-use mathlib.Core.List.{List, [], _∷_, _++_}
+use mathlib.Core.List.{List, _∷_, _++_}
 use Prim.Native.Nat.{ℕ, zero, suc, _+_, _*_, _/_, _%_, _^_, _<_}
 use native.Mathlib.Nat.{pow-suc, mod-lt, add-zero, add-suc, suc-add, zero-add, one-mul, div-one, pow-succ', div-div-eq-div-mul, mul-assoc}
 use native.Mathlib.Omega.{arith}

@@ -2,8 +2,8 @@
 -- Assumes nothing.
 use Prim.Native.Nat.{ℕ, _+_}
 use mathlib.Core.List.{List, []}
-use lib.ListN.{length, take, drop}
-use Rattle.fields.specs.Fields.{pick, le, part, fits, put}
+use lib.ListN.{length}
+use Rattle.fields.specs.Fields.{pick, part, fits, put}
 use Rattle.fields.specs.declared.Cursor.{Cursor}
 
 -- the cursor at the front

@@ -3,7 +3,7 @@
 use std::io::{ErrorKind, Read, Write};
 
 /// The longest request or answer, in bytes.
-pub const LONGEST: usize = 1 << 20;
+pub const LONGEST: usize = 1 << 18;
 
 /// Reads one frame; `None` where the input ends before it.
 pub fn read(input: &mut impl Read) -> Result<Option<Vec<u8>>, String> {
@@ -66,6 +66,30 @@ impl<'a> Fields<'a> {
         Ok(self.number(1)? as u8)
     }
 
+    pub fn u32(&mut self) -> Result<u32, String> {
+        Ok(self.number(4)? as u32)
+    }
+
+    pub fn u64(&mut self) -> Result<u64, String> {
+        self.number(8)
+    }
+
+    /// A yes, 1, or a no, 0.
+    pub fn flag(&mut self) -> Result<bool, String> {
+        match self.u8()? {
+            0 => Ok(false),
+            1 => Ok(true),
+            other => Err(format!("a request has {other} for a yes or no")),
+        }
+    }
+
+    /// So many bytes.
+    pub fn array<const N: usize>(&mut self) -> Result<[u8; N], String> {
+        let mut bytes = [0; N];
+        bytes.copy_from_slice(self.take(N)?);
+        Ok(bytes)
+    }
+
     /// A run: its length as a u32, then its bytes.
     pub fn run(&mut self) -> Result<&'a [u8], String> {
         let count = self.number(4)? as usize;
@@ -81,6 +105,9 @@ impl<'a> Fields<'a> {
     }
 }
 
+/// The number of an answer to a request that the original can't be asked.
+pub const NOT_ASKED: u8 = 255;
+
 /// An answer: the refusal's number and place (both 0 where there is none), then the operation's own fields.
 pub struct Answer {
     bytes: Vec<u8>,
@@ -88,14 +115,33 @@ pub struct Answer {
 
 impl Answer {
     pub fn new(number: u8, place: u64) -> Self {
-        let mut bytes = vec![number];
-        bytes.extend_from_slice(&place.to_le_bytes());
-        Self { bytes }
+        Self { bytes: vec![number] }.u64(place)
+    }
+
+    pub fn u8(mut self, number: u8) -> Self {
+        self.bytes.push(number);
+        self
     }
 
     pub fn u32(mut self, number: u32) -> Self {
         self.bytes.extend_from_slice(&number.to_le_bytes());
         self
+    }
+
+    pub fn u64(mut self, number: u64) -> Self {
+        self.bytes.extend_from_slice(&number.to_le_bytes());
+        self
+    }
+
+    /// Bytes whose number the operation fixes.
+    pub fn array(mut self, bytes: &[u8]) -> Self {
+        self.bytes.extend_from_slice(bytes);
+        self
+    }
+
+    /// Bytes with their number in front.
+    pub fn run(self, bytes: &[u8]) -> Self {
+        self.u32(bytes.len() as u32).array(bytes)
     }
 
     pub fn done(self) -> Vec<u8> {

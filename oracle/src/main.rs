@@ -1,23 +1,6 @@
-//! The oracle: answers framed requests with what the original Rust does. README.md has the protocol.
-//!
-//! The original's `crc32.rs`, `format.rs` and `stored.rs` are compiled unchanged, from where `build.rs` finds them.
-//! What they lean on and the sources lack stands in `standins`. Nothing is guessed: a request or an answer of the
-//! original that the oracle doesn't know stops it with a message and a status other than 0.
+//! The oracle: reads requests from standard input until it ends, and writes the original's answer to each.
 
-mod frames;
-mod operations;
-// The original is compiled whole, though not every part of it is asked.
-#[allow(dead_code)]
-mod standins;
-
-// The original names these crates; the stand-ins take their place.
-extern crate self as bytes;
-extern crate self as ironfix_core;
-pub(crate) use standins::bytes::{Buf, Bytes};
-pub(crate) use standins::{error, message};
-
-include!(concat!(env!("OUT_DIR"), "/original.rs"));
-
+use oracle::{frames, operations};
 use std::io::{BufReader, BufWriter, Write};
 use std::process::ExitCode;
 

@@ -1,0 +1,70 @@
+//! compare SEED COUNT COMMAND..: sends COUNT requests, made from SEED, to COMMAND, which answers the oracle's protocol, and holds each
+//! answer to the original's. Prints how many were compared, by operation and by refusal; a difference is printed whole and ends it.
+
+use oracle::frames::{self, NOT_ASKED};
+use oracle::generate::{self, Numbers};
+use oracle::operations;
+use std::collections::BTreeMap;
+use std::io::{BufReader, BufWriter, Write};
+use std::process::{Command, ExitCode, Stdio};
+
+fn main() -> ExitCode {
+    match compare() {
+        Ok(()) => ExitCode::SUCCESS,
+        Err(message) => {
+            eprintln!("compare: {message}");
+            ExitCode::FAILURE
+        }
+    }
+}
+
+fn number(word: Option<String>) -> Result<u64, String> {
+    word.and_then(|word| word.parse().ok())
+        .ok_or_else(|| "usage: compare SEED COUNT COMMAND..".to_string())
+}
+
+fn compare() -> Result<(), String> {
+    let mut words = std::env::args().skip(1);
+    let (seed, count) = (number(words.next())?, number(words.next())?);
+    let command = words.next().ok_or("usage: compare SEED COUNT COMMAND..")?;
+    let mut numbers = Numbers::new(seed);
+    let requests: Vec<Vec<u8>> = (0..count as usize).map(|turn| generate::request(&mut numbers, turn)).collect();
+
+    let mut port = Command::new(&command)
+        .args(words)
+        .stdin(Stdio::piped())
+        .stdout(Stdio::piped())
+        .spawn()
+        .map_err(|err| format!("cannot start {command}: {err}"))?;
+    let mut input = BufWriter::new(port.stdin.take().ok_or("the port has no input")?);
+    let mut output = BufReader::new(port.stdout.take().ok_or("the port has no output")?);
+    let sent = requests.clone();
+    let sender = std::thread::spawn(move || {
+        // A port that ends early is found by its answers.
+        let _ = sent.iter().try_for_each(|request| frames::write(&mut input, request));
+        let _ = input.flush();
+    });
+
+    let mut counts: BTreeMap<(&str, u8), u64> = BTreeMap::new();
+    for request in &requests {
+        let original = operations::answer(request)?;
+        let answer = frames::read(&mut output)?.unwrap_or_default();
+        let asked = original.first() != Some(&NOT_ASKED);
+        let same = if asked { answer == original } else { operations::added(request, &answer)? };
+        if !same {
+            return Err(format!("a difference\nrequest  {}\noriginal {}\nport     {}", hex(request), hex(&original), hex(&answer)));
+        }
+        let refusal = answer.first().copied().unwrap_or(0);
+        *counts.entry((operations::name(request), refusal)).or_default() += 1;
+    }
+    sender.join().map_err(|_| "the sender failed")?;
+    for ((name, refusal), count) in counts {
+        println!("{name} {refusal}: {count}");
+    }
+    println!("{count} requests compared, no difference");
+    Ok(())
+}
+
+fn hex(bytes: &[u8]) -> String {
+    bytes.iter().map(|byte| format!("{byte:02x}")).collect()
+}

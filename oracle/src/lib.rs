@@ -1,0 +1,21 @@
+//! The original Rust of the IronFix journal, asked by framed requests. README.md has the protocol.
+//!
+//! The original's `crc32.rs`, `format.rs` and `stored.rs` are compiled unchanged, from where `build.rs` finds them.
+//! What they lean on and the sources lack stands in `standins`. Nothing is guessed: a request or an answer of the
+//! original that isn't known is an error.
+
+pub mod frames;
+pub mod generate;
+pub mod operations;
+mod refusals;
+// The original is compiled whole, though not every part of it is asked.
+#[allow(dead_code)]
+mod standins;
+
+// The original names these crates; the stand-ins take their place.
+extern crate self as bytes;
+extern crate self as ironfix_core;
+pub(crate) use standins::bytes::{Buf, Bytes};
+pub(crate) use standins::{error, message};
+
+include!(concat!(env!("OUT_DIR"), "/original.rs"));

@@ -72,12 +72,12 @@ fn slot(request: &[u8], out: &mut [u8]) -> usize {
     }
     let c = answers::begin(out, 0, 0);
     match prefix::decode_slot(fields::run(request, bytes.start, bytes.len)) {
-        SlotRead::Whole(s) => {
+        SlotRead::Sound(s) => {
             let c1 = fields::put_u8(out, c, 1);
             let end = answers::put_slot(out, c1, s);
             end.at
         }
-        SlotRead::Torn => {
+        SlotRead::Unsound => {
             let end = fields::put_run(out, c, &[0; 42]);
             end.at
         }

@@ -120,7 +120,7 @@ fn header(numbers: &mut Numbers) -> Vec<u8> {
 /// The image of a slot, of which one field may be changed and sealed again.
 fn image(numbers: &mut Numbers, generation: u64, counters: [u64; 4], reset: bool) -> Vec<u8> {
     let [sender, target, end, watermark] = counters;
-    // The second of two fresh slots serves the last generations.
+    // The original makes no fresh slot of the last generations: there the generation is written over another.
     let made = match fresh_slots(generation, sender, target, end, watermark, reset) {
         Ok((images, _)) => images[0],
         Err(_) => {

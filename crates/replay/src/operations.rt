@@ -84,16 +84,24 @@ fn slot(request: &[u8], out: &mut [u8]) -> usize {
     }
 }
 
-fn chosen(out: &mut [u8], position: u8, s: Slot, image: &[u8]) -> usize {
-    let c = answers::begin(out, 0, 0);
-    let c1 = fields::put_u8(out, c, position);
+fn chosen(out: &mut [u8], choice: Newest, s: Slot, image: &[u8]) -> usize {
+    let c = answers::begin(
+        out,
+        prefix::newest_number(choice),
+        prefix::newest_place(choice),
+    );
+    let c1 = fields::put_u8(out, c, prefix::newest_position(choice));
     let c2 = answers::put_slot(out, c1, s);
     let end = answers::put_run(out, c2, image);
     end.at
 }
 
-fn not_chosen(out: &mut [u8], number: u8, image: &[u8]) -> usize {
-    let c = answers::begin(out, number, 0);
+fn not_chosen(out: &mut [u8], choice: Newest, image: &[u8]) -> usize {
+    let c = answers::begin(
+        out,
+        prefix::newest_number(choice),
+        prefix::newest_place(choice),
+    );
     let c1 = fields::put_run(out, c, &[0; 42]);
     let end = answers::put_run(out, c1, image);
     end.at
@@ -108,11 +116,12 @@ fn newest(request: &[u8], out: &mut [u8]) -> usize {
     let zero = fields::run(request, a.start, a.len);
     let one = fields::run(request, b.start, b.len);
     let image = prefix::newest_slot(zero, one);
-    match prefix::find_newest(zero, one) {
-        Newest::Zero(s) => chosen(out, 0, s, image),
-        Newest::One(s) => chosen(out, 1, s, image),
-        Newest::NoneSound => not_chosen(out, 8, image),
-        Newest::Differ => not_chosen(out, 9, image),
+    let choice = prefix::find_newest(zero, one);
+    match choice {
+        Newest::Zero(s) => chosen(out, choice, s, image),
+        Newest::One(s) => chosen(out, choice, s, image),
+        Newest::NoneSound => not_chosen(out, choice, image),
+        Newest::Differ => not_chosen(out, choice, image),
     }
 }
 

@@ -1,4 +1,7 @@
-//! Finds the original's sources and writes the module tree that compiles them where they stand, unchanged.
+//! Finds the original's sources and writes the module tree that compiles them, unchanged.
+//!
+//! `crc32.rs` and `stored.rs` are compiled where they stand. `format.rs` is compiled from a copy: its text, unchanged, and behind it
+//! the declaration of one child module, `src/inner.rs`, which sees what the file keeps private.
 //!
 //! `IRONFIX_SRC` names the folder; else it is `shared/docs/src` beside the repository. Either the original's own
 //! tree (`ironfix-store/src/file/format.rs`) or the flat copies (`src--ironfix-store--src--file--format.rs.txt`) will do.
@@ -14,6 +17,7 @@ const STORED: &str = "ironfix-store/src/stored.rs";
 fn main() {
     println!("cargo::rerun-if-env-changed=IRONFIX_SRC");
     let folder = folder();
+    let out = PathBuf::from(env::var_os("OUT_DIR").expect("cargo sets OUT_DIR"));
     let tree = format!(
         "#[allow(dead_code)]\n\
          mod file {{\n\
@@ -27,11 +31,10 @@ fn main() {
          #[path = {:?}]\n\
          mod stored;\n",
         source(&folder, CRC32),
-        source(&folder, FORMAT),
+        with_inner(&source(&folder, FORMAT), out.join("format.rs")),
         source(&folder, STORED),
     );
-    let out = PathBuf::from(env::var_os("OUT_DIR").expect("cargo sets OUT_DIR")).join("original.rs");
-    fs::write(&out, tree).unwrap_or_else(|err| stop(&format!("cannot write {}: {err}", out.display())));
+    write(&out.join("original.rs"), &tree);
 }
 
 /// The folder of the sources.
@@ -55,6 +58,18 @@ fn source(folder: &Path, path: &str) -> PathBuf {
     };
     println!("cargo::rerun-if-changed={}", file.display());
     fs::canonicalize(&file).unwrap_or_else(|err| stop(&format!("cannot find {}: {err}", file.display())))
+}
+
+/// A copy of one source with the child module declared behind its last line.
+fn with_inner(file: &Path, copy: PathBuf) -> PathBuf {
+    let text = fs::read_to_string(file).unwrap_or_else(|err| stop(&format!("cannot read {}: {err}", file.display())));
+    let inner = Path::new(env!("CARGO_MANIFEST_DIR")).join("src/inner.rs");
+    write(&copy, &format!("{text}\n#[path = {inner:?}]\npub(crate) mod inner;\n"));
+    copy
+}
+
+fn write(file: &Path, text: &str) {
+    fs::write(file, text).unwrap_or_else(|err| stop(&format!("cannot write {}: {err}", file.display())));
 }
 
 fn stop(message: &str) -> ! {

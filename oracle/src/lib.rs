@@ -1,8 +1,8 @@
 //! The original Rust of the IronFix journal, asked by framed requests. README.md has the protocol.
 //!
-//! The original's `crc32.rs`, `format.rs` and `stored.rs` are compiled unchanged, from where `build.rs` finds them.
-//! What they lean on and the sources lack stands in `standins`. Nothing is guessed: a request or an answer of the
-//! original that isn't known is an error.
+//! The original's `crc32.rs`, `format.rs` and `stored.rs` are compiled unchanged, from where `build.rs` finds them. Behind the text of
+//! `format.rs` one child module is declared, `inner`, which asks what that file keeps private. What they lean on and the sources lack
+//! stands in `standins`. Nothing is guessed: a request or an answer of the original that isn't known is an error.
 
 pub mod frames;
 pub mod generate;

@@ -1,8 +1,10 @@
 //! One function an operation: takes the request apart, calls the original, and says all that it left.
 
 use crate::file::crc32::crc32;
-use crate::file::format::{self, DamageRule, Header, Slot, SlotImages, HEADER_LEN, SLOT_LEN};
+use crate::file::format::inner::{self, Contents, First};
+use crate::file::format::{self, DamageRule, Header, Slot, SlotImages, TruncationCause, HEADER_LEN, RECORD_HEADER_LEN, SLOT_LEN};
 use crate::frames::{Answer, Fields, NOT_ASKED};
+use crate::message::MsgType;
 use crate::refusals;
 use std::time::{Duration, SystemTime, UNIX_EPOCH};
 
@@ -12,8 +14,19 @@ pub const SLOT: u8 = 3;
 pub const NEWEST: u8 = 4;
 pub const SLOTS: u8 = 5;
 pub const PREFIX: u8 = 6;
+pub const RECORD: u8 = 7;
+pub const SEAL: u8 = 8;
+pub const BODY: u8 = 9;
+pub const SEEN: u8 = 10;
 
-const NAMES: [&str; 7] = ["none", "crc", "header", "slot", "newest", "slots", "prefix"];
+const NAMES: [&str; 11] =
+    ["none", "crc", "header", "slot", "newest", "slots", "prefix", "record", "seal", "body", "seen"];
+
+/// The highest frame limit in the port's domain.
+pub(crate) const HIGHEST_FRAME_LIMIT: u64 = 67_108_864;
+
+/// How many bytes an answer has for what a body holds.
+const CONTENTS_LEN: usize = 42;
 
 /// The name of a request's operation.
 pub fn name(request: &[u8]) -> &'static str {
@@ -31,7 +44,19 @@ pub fn answer(request: &[u8]) -> Result<Vec<u8>, String> {
         NEWEST => newest(fields),
         SLOTS => slots(fields),
         PREFIX => prefix(fields),
+        RECORD => record(fields),
+        SEAL => seal(fields),
+        BODY => body(fields),
+        SEEN => seen(fields),
         other => Err(format!("no operation has the number {other}")),
+    }
+}
+
+/// The result's first byte, where the operation says with it what it found and refuses nothing.
+pub fn found(request: &[u8], answer: &[u8]) -> Option<u8> {
+    match request.first() {
+        Some(&(BODY | SEEN)) => answer.get(9).copied(),
+        _ => None,
     }
 }
 
@@ -143,8 +168,121 @@ fn prefix(mut fields: Fields) -> Result<Vec<u8>, String> {
     Ok(Answer::new(0, 0).u64(written.len() as u64).run(&out).done())
 }
 
-/// Whether the port's answer is right where the original can't be asked: the refusal that the port adds, with zeros in the result's
-/// fields and no lent byte changed.
+/// A type code as the original takes it, where it is good. Bytes past the length don't count.
+fn code(bytes: &[u8; 8], length: u8) -> Option<MsgType> {
+    let bytes = bytes.get(..usize::from(length))?;
+    std::str::from_utf8(bytes).ok().and_then(|code| MsgType::new(code).ok())
+}
+
+/// A frame limit, where it is in the port's domain.
+fn frame_limit(limit: u64) -> Option<u32> {
+    u32::try_from(limit).ok().filter(|limit| u64::from(*limit) <= HIGHEST_FRAME_LIMIT)
+}
+
+/// A frame's record, not sealed, written into a lent output. The original can't be asked for a limit out of domain, for a bad code or
+/// for a small output.
+fn record(mut fields: Fields) -> Result<Vec<u8>, String> {
+    let kind = fields.u8()?;
+    let (sender, number) = (fields.u64()?, fields.u64()?);
+    let code = code(&fields.array()?, fields.u8()?);
+    let limit = frame_limit(fields.u64()?);
+    let frame = fields.run()?;
+    let mut out = fields.run()?.to_vec();
+    fields.end()?;
+    let sender = match kind {
+        1 => None,
+        5 => Some(sender),
+        other => return Err(format!("a request has {other} for a record's kind")),
+    };
+    let Some(limit) = limit else {
+        return Ok(Answer::new(NOT_ASKED, 0).done());
+    };
+    // The frame is measured before the code is looked at. So a good code takes a bad one's place, and only a refusal counts then.
+    let any = MsgType::new("D").map_err(|_| "the code D is not good")?;
+    let mut written = Vec::new();
+    let asked = format::encode_frame_record_into(&mut written, number, sender, code.as_ref().unwrap_or(&any), frame, limit);
+    if let Err(error) = asked {
+        return Ok(Answer::new(refusals::number(&error)?, 0).u64(0).run(&out).done());
+    }
+    match (code, out.get_mut(..written.len())) {
+        (Some(_), Some(front)) => front.copy_from_slice(&written),
+        _ => return Ok(Answer::new(NOT_ASKED, 0).done()),
+    }
+    Ok(Answer::new(0, 0).u64(written.len() as u64).run(&out).done())
+}
+
+/// A record, sealed in place. Under 12 bytes the original does nothing and says nothing.
+fn seal(mut fields: Fields) -> Result<Vec<u8>, String> {
+    let generation = fields.u64()?;
+    let mut record = fields.run()?.to_vec();
+    fields.end()?;
+    if record.len() < RECORD_HEADER_LEN {
+        return Ok(Answer::new(NOT_ASKED, 0).done());
+    }
+    format::seal_frame_record(&mut record, generation);
+    Ok(Answer::new(0, 0).run(&record).done())
+}
+
+fn with_contents(answer: Answer, contents: &Contents) -> Answer {
+    let kind = if contents.counter.is_some() { 5 } else { 1 };
+    let (generation, sender) = contents.counter.unwrap_or((0, 0));
+    let code = contents.code.as_str().as_bytes();
+    let mut bytes = [0; 8];
+    bytes[..code.len()].copy_from_slice(code);
+    let answer = answer.u8(kind).u64(contents.number).u64(generation).u64(sender);
+    answer.array(&bytes).u8(code.len() as u8).u64(contents.frame as u64)
+}
+
+/// What a body holds.
+fn body(mut fields: Fields) -> Result<Vec<u8>, String> {
+    let bytes = fields.run()?;
+    fields.end()?;
+    let answer = Answer::new(0, 0);
+    Ok(match inner::contents(bytes) {
+        Some(contents) => with_contents(answer.u8(1), &contents).done(),
+        None => answer.u8(0).array(&[0; CONTENTS_LEN]).done(),
+    })
+}
+
+/// An answer of `seen` where no sound record stands: the number of the test that fails.
+fn unsound(test: u8) -> Vec<u8> {
+    Answer::new(0, 0).u8(test).array(&[0; 16 + CONTENTS_LEN]).done()
+}
+
+/// What stands at a place. The original can't be asked where no bytes remain.
+fn seen(mut fields: Fields) -> Result<Vec<u8>, String> {
+    let (limit, place) = (fields.u64()?, fields.u64()?);
+    let bytes = fields.run()?;
+    fields.end()?;
+    let rest = usize::try_from(place).ok().and_then(|place| bytes.get(place..)).unwrap_or_default();
+    if rest.is_empty() {
+        return Ok(Answer::new(NOT_ASKED, 0).done());
+    }
+    let test = match inner::first(rest, limit)? {
+        First::Body(body) => match inner::contents(&body) {
+            Some(contents) => {
+                let answer = Answer::new(0, 0).u8(0).u64(place).u64(body.len() as u64);
+                return Ok(with_contents(answer, &contents).done());
+            }
+            None => 6,
+        },
+        First::Cut(TruncationCause::Incomplete) if rest.len() < RECORD_HEADER_LEN => 1,
+        First::Cut(TruncationCause::Incomplete) => 4,
+        // Zeros aren't each other's complement: of the two kinds of damage, this is the header's.
+        First::Cut(TruncationCause::Damaged) if rest.starts_with(&[0; RECORD_HEADER_LEN]) => 2,
+        First::Cut(TruncationCause::Damaged) => 5,
+        First::Refused(error) => match refusals::number(&error)? {
+            11 => 2,
+            12 => 5,
+            13 => 3,
+            other => return Err(format!("the original's scan refuses a first record with {other}")),
+        },
+    };
+    Ok(unsound(test))
+}
+
+/// Whether the port's answer is right where the original can't be asked: what the port adds, with zeros in the result's fields and no
+/// lent byte changed.
 pub fn added(request: &[u8], answer: &[u8]) -> Result<bool, String> {
     let mut fields = Fields::new(request);
     match fields.u8()? {
@@ -158,6 +296,24 @@ pub fn added(request: &[u8], answer: &[u8]) -> Result<bool, String> {
             };
             Ok(answer == Answer::new(number, 0).u64(0).run(fields.run()?).done())
         }
+        RECORD => {
+            fields.array::<17>()?;
+            let code = code(&fields.array()?, fields.u8()?);
+            let limit = frame_limit(fields.u64()?);
+            let frame = fields.run()?;
+            let number = match (limit, code) {
+                (None, _) => 17,
+                (Some(limit), _) if frame.len() as u64 > u64::from(limit) => 19,
+                (_, None) => 20,
+                _ => 21,
+            };
+            Ok(answer == Answer::new(number, 0).u64(0).run(fields.run()?).done())
+        }
+        SEAL => {
+            fields.u64()?;
+            Ok(answer == Answer::new(22, 0).run(fields.run()?).done())
+        }
+        SEEN => Ok(answer == unsound(1)),
         other => Err(format!("the original can be asked each request of operation {other}")),
     }
 }

@@ -1,9 +1,14 @@
-//! The oracle over its pipes: the published CRC-32s, frames, and requests that stop it.
+//! The oracle over its pipes: the published CRC-32s, records, frames, and requests that stop it.
 
+use oracle::operations;
 use std::io::Write;
 use std::process::{Command, Output, Stdio};
 
 const CRC: u8 = 1;
+const RECORD: u8 = 7;
+const SEAL: u8 = 8;
+const BODY: u8 = 9;
+const SEEN: u8 = 10;
 
 fn run(bytes: &[u8]) -> Vec<u8> {
     [&(bytes.len() as u32).to_le_bytes(), bytes].concat()
@@ -96,4 +101,154 @@ fn answers_before_a_bad_request_stand() {
     let output = oracle(&[crc(b"a", b""), run(&[200])].concat());
     assert_eq!(output.status.code(), Some(2));
     assert_eq!(output.stdout, answer(0xE8B7_BE43));
+}
+
+/// The answer to one request.
+fn ask(request: &[u8]) -> Vec<u8> {
+    let output = oracle(&run(request));
+    assert!(output.status.success());
+    let (length, answer) = output.stdout.split_at(4);
+    assert_eq!(length, (answer.len() as u32).to_le_bytes());
+    answer.to_vec()
+}
+
+const FRAME: &[u8] = b"8=F\x01";
+
+/// Sender 9, number 7, and a code of which the first two bytes are good.
+fn record(kind: u8, code_length: u8, limit: u64, out: &[u8]) -> Vec<u8> {
+    let front = [RECORD, kind, 9, 0, 0, 0, 0, 0, 0, 0, 7, 0, 0, 0, 0, 0, 0, 0];
+    [&front, b"D~ \xFF\0\0\0\0" as &[u8], &[code_length], &limit.to_le_bytes(), &run(FRAME), &run(out)].concat()
+}
+
+fn seal(generation: u64, record: &[u8]) -> Vec<u8> {
+    [&[SEAL], &generation.to_le_bytes()[..], &run(record)].concat()
+}
+
+fn body(bytes: &[u8]) -> Vec<u8> {
+    [vec![BODY], run(bytes)].concat()
+}
+
+fn seen(limit: u64, place: u64, bytes: &[u8]) -> Vec<u8> {
+    [&[SEEN], &limit.to_le_bytes()[..], &place.to_le_bytes(), &run(bytes)].concat()
+}
+
+/// What an answer has for number 7 under the code D.
+fn contents(kind: u8, generation: u8, sender: u8, frame: u8) -> Vec<u8> {
+    let numbers = [7, 0, 0, 0, 0, 0, 0, 0, generation, 0, 0, 0, 0, 0, 0, 0, sender, 0, 0, 0, 0, 0, 0, 0];
+    [&[kind], &numbers[..], b"D\0\0\0\0\0\0\0\x01", &[frame, 0, 0, 0, 0, 0, 0, 0]].concat()
+}
+
+const KIND_1: &[u8] = b"\x0F\0\0\0\xF0\xFF\xFF\xFF\x7B\x21\xC2\xA5\x01\x07\0\0\0\0\0\0\0\x01D8=F\x01";
+const KIND_5: &[u8] = b"\x1F\0\0\0\xE0\xFF\xFF\xFF\xA9\x4F\x5A\xD0\x05\x07\0\0\0\0\0\0\0\
+    \x03\0\0\0\0\0\0\0\x09\0\0\0\0\0\0\0\x01D8=F\x01";
+
+/// Writes a record, seals it with generation 3, and reads it back behind two other bytes.
+fn written_sealed_and_seen(kind: u8, sealed: &[u8], contents: &[u8]) {
+    let mut written = sealed.to_vec();
+    written[4..12].fill(0);
+    if kind == 5 {
+        written[21..29].fill(0);
+    }
+    let room = [0xEE; 50];
+    let length = (sealed.len() as u64).to_le_bytes();
+    let out = [&written, &room[sealed.len()..]].concat();
+    assert_eq!(ask(&record(kind, 1, 4, &room)), [&[0; 9], &length[..], &run(&out)].concat());
+    assert_eq!(ask(&seal(3, &written)), [&[0; 9], &run(sealed)[..]].concat());
+    assert_eq!(ask(&body(&sealed[12..])), [&[0; 9], &[1][..], contents].concat());
+    let length = sealed.len() as u8 - 12;
+    let front = [0, 2, 0, 0, 0, 0, 0, 0, 0, length, 0, 0, 0, 0, 0, 0, 0];
+    let found = ask(&seen(u64::from(length), 2, &[b"..", sealed, b"."].concat()));
+    assert_eq!(found, [&[0; 9], &front[..], contents].concat());
+}
+
+#[test]
+fn records_are_written_sealed_and_seen() {
+    assert_eq!((KIND_1.len(), KIND_5.len()), (27, 43));
+    written_sealed_and_seen(1, KIND_1, &contents(1, 0, 0, 11));
+    written_sealed_and_seen(5, KIND_5, &contents(5, 3, 9, 27));
+}
+
+/// A record with one byte changed.
+fn changed(at: usize, to: u8) -> Vec<u8> {
+    let mut record = KIND_1.to_vec();
+    record[at] = to;
+    record
+}
+
+#[test]
+fn the_test_that_fails_is_named() {
+    let no_length = b"\0\0\0\0\xFF\xFF\xFF\xFF\0\0\0\0";
+    let wrong_crc = changed(26, 2);
+    let unknown_kind = ask(&seal(0, &changed(12, 2)))[13..].to_vec();
+    let cases: [(u8, u64, &[u8]); 12] = [
+        (1, 15, &KIND_1[..1]),
+        (1, 15, &KIND_1[..11]),
+        (2, 15, &changed(4, 0xF1)),
+        (2, 15, &[0; 12]),
+        (2, 15, &[&[0; 12][..], KIND_1].concat()),
+        (3, 14, KIND_1),
+        (3, 15, no_length),
+        (4, 15, &KIND_1[..26]),
+        (5, 15, &wrong_crc),
+        (5, 15, &[&wrong_crc[..], &[0; 5]].concat()),
+        (5, 15, &[&wrong_crc[..], KIND_1].concat()),
+        (6, 15, &unknown_kind),
+    ];
+    for (test, limit, bytes) in cases {
+        let expected = [&[0; 9], &[test][..], &[0; 58]].concat();
+        assert_eq!(ask(&seen(limit, 0, bytes)), expected, "{test}: {bytes:02x?}");
+    }
+}
+
+#[test]
+fn a_body_that_does_not_read() {
+    let body_of = |at, to| changed(at, to)[12..].to_vec();
+    // No body, another kind, a kind that has more fields, a code of no bytes, one past the end, one with a space, and one of 9.
+    let long_code = b"\x01\x07\0\0\0\0\0\0\0\x09DDDDDDDDD";
+    let bodies = [vec![], body_of(12, 2), body_of(12, 5), body_of(21, 0), body_of(21, 6), body_of(22, 0x20), long_code.to_vec()];
+    for bytes in bodies {
+        assert_eq!(ask(&body(&bytes)), [0; 52], "{bytes:02x?}");
+    }
+}
+
+/// The original can't be asked this, and the port is held to one answer.
+fn not_asked(request: &[u8], number: u8, rest: &[u8]) {
+    assert_eq!(ask(request), [255, 0, 0, 0, 0, 0, 0, 0, 0]);
+    for tried in 0..=255 {
+        let answer = [&[tried], &[0; 8][..], rest].concat();
+        assert_eq!(operations::added(request, &answer), Ok(tried == number));
+    }
+    let touched = [&[number], &[0; 8][..], &rest[..rest.len() - 1], &[0xAA]].concat();
+    assert_eq!(operations::added(request, &touched), Ok(false));
+}
+
+#[test]
+fn what_the_original_cannot_be_asked() {
+    let unwritten = |room: usize| [&[0; 8], &run(&vec![0xEE; room])[..]].concat();
+    not_asked(&record(1, 9, 67_108_865, &[0xEE; 50]), 17, &unwritten(50));
+    for code_length in [0, 3, 4, 9, 255] {
+        not_asked(&record(1, code_length, 67_108_864, &[0xEE; 50]), 20, &unwritten(50));
+    }
+    not_asked(&record(5, 0, 4, &[0xEE; 1]), 20, &unwritten(1));
+    not_asked(&record(1, 1, 4, &[0xEE; 26]), 21, &unwritten(26));
+    not_asked(&record(5, 2, 4, &[0xEE; 43]), 21, &unwritten(43));
+    not_asked(&seal(3, &KIND_5[..11]), 22, &run(&KIND_5[..11]));
+    for place in [27, 28, u64::MAX] {
+        not_asked(&seen(15, place, KIND_1), 0, &[&[1], &[0; 58][..]].concat());
+    }
+}
+
+#[test]
+fn a_frame_above_the_limit() {
+    // Before a bad code and before a small output.
+    for (code_length, room) in [(1, 50), (0, 50), (9, 50), (1, 0), (0, 0)] {
+        let out = vec![0xEE; room];
+        let expected = [&[19], &[0; 16][..], &run(&out)].concat();
+        assert_eq!(ask(&record(1, code_length, 3, &out)), expected);
+    }
+}
+
+#[test]
+fn a_record_of_another_kind_stops_it() {
+    stops(&run(&record(2, 1, 4, &[0; 50])), "a request has 2 for a record's kind");
 }

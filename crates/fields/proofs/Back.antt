@@ -13,7 +13,7 @@ pow-pos zero = lit< tt
 pow-pos (suc n) = let h = pow-pos n in rw (pow-suc 256 n) (omega arith)
 
 -- a byte in front moves a field by one
-le-cons : (n b : ℕ) (s : List ℕ) (p : ℕ) → le n (b ∷ s) (suc p) ≡ le n s p
+pub le-cons : (n b : ℕ) (s : List ℕ) (p : ℕ) → le n (b ∷ s) (suc p) ≡ le n s p
 unfolding le
 le-cons zero b s p = refl
 le-cons (suc n) b s p = ap₂ (λ (x y : ℕ). x + 256 * y) refl (le-cons n b s (suc p))

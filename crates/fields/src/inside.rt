@@ -1,5 +1,6 @@
 // For the layers above, where the caller has shown that the field fits: no user needs this module.
 ghost use mathlib.Core.Path.{_≡_};
+ghost use mathlib.Core.List.{[], _∷_};
 ghost use Prim.Native.Nat.{_+_, _≤_, _<_};
 ghost use lib.ListN.{length, replicate};
 ghost use Rattle.fields.specs.Fields.{le, leBytes, put};
@@ -32,6 +33,13 @@ pub fn u64_at(s: &[u8], at: usize) -> u64
     let low = u32_at(s, at);
     let high = u32_at(s, at + 4);
     (low as u64) + (high as u64) * 4294967296
+}
+
+pub fn put_u8_at(out: &mut [u8], at: usize, x: u8)
+    requires { ⌜ at + 1 ≤ length (now out) ⌝ }
+    ensures { λ _. ⌜ now (out .exit) ≡ put (x ∷ []) (now (out .entry)) at ⌝ }
+{
+    out[at] = x;
 }
 
 pub fn put_u16_at(out: &mut [u8], at: usize, x: u16)

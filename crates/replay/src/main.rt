@@ -5,6 +5,7 @@ ghost use lib.ListN.{length};
 
 mod answers;
 mod operations;
+mod records;
 
 use libc::STDIN_FILENO;
 use libc::STDOUT_FILENO;

@@ -1,6 +1,7 @@
 // One function an operation: takes the request apart, calls the port, and writes all that it left. The result is the answer's length,
 // or 0 for a request that isn't one.
 use crate::answers;
+use crate::records;
 use fields::Cursor;
 use prefix::FreshNext;
 use prefix::Header;
@@ -23,6 +24,10 @@ pub fn respond(request: &[u8], out: &mut [u8]) -> usize {
         4 => newest(request, out),
         5 => slots(request, out),
         6 => prefix(request, out),
+        7 => records::record(request, out),
+        8 => records::seal(request, out),
+        9 => records::body(request, out),
+        10 => records::seen(request, out),
         _ => 0,
     }
 }

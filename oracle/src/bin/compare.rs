@@ -1,5 +1,6 @@
 //! compare SEED COUNT COMMAND..: sends COUNT requests, made from SEED, to COMMAND, which answers the oracle's protocol, and holds each
-//! answer to the original's. Prints how many were compared, by operation and by refusal; a difference is printed whole and ends it.
+//! answer to the original's. Prints how many were compared, by operation and by refusal, and of `body` and `seen` by what was found; a
+//! difference is printed whole and ends it.
 
 use oracle::frames::{self, NOT_ASKED};
 use oracle::generate::{self, Numbers};
@@ -45,7 +46,7 @@ fn compare() -> Result<(), String> {
         let _ = input.flush();
     });
 
-    let mut counts: BTreeMap<(&str, u8), u64> = BTreeMap::new();
+    let mut counts: BTreeMap<(&str, u8, Option<u8>), u64> = BTreeMap::new();
     for request in &requests {
         let original = operations::answer(request)?;
         let answer = frames::read(&mut output)?.unwrap_or_default();
@@ -55,11 +56,13 @@ fn compare() -> Result<(), String> {
             return Err(format!("a difference\nrequest  {}\noriginal {}\nport     {}", hex(request), hex(&original), hex(&answer)));
         }
         let refusal = answer.first().copied().unwrap_or(0);
-        *counts.entry((operations::name(request), refusal)).or_default() += 1;
+        let found = operations::found(request, &answer);
+        *counts.entry((operations::name(request), refusal, found)).or_default() += 1;
     }
     sender.join().map_err(|_| "the sender failed")?;
-    for ((name, refusal), count) in counts {
-        println!("{name} {refusal}: {count}");
+    for ((name, refusal, found), count) in counts {
+        let found = found.map_or(String::new(), |found| format!(" found {found}"));
+        println!("{name} {refusal}{found}: {count}");
     }
     println!("{count} requests compared, no difference");
     Ok(())

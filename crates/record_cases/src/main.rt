@@ -53,8 +53,13 @@ fn letter(b: u8) -> MsgType {
     }
 }
 
-fn answer(written: RecordWritten, out: &[u8]) {
-    match written {
+// Message number 2, into all of the output.
+fn write(kind: Kind, c: MsgType, frame: &[u8], limit: u64, out: &mut [u8]) {
+    number(c.len as u64);
+    number(frame.len() as u64);
+    number(limit);
+    number(out.len() as u64);
+    match record::encode_frame_record(out, kind, 2, c, frame, limit) {
         RecordWritten::Written(n) => {
             text(b" written");
             number(n as u64);
@@ -65,37 +70,25 @@ fn answer(written: RecordWritten, out: &[u8]) {
     text(b"\n");
 }
 
-fn head(name: &[u8], letters: u8, frame: &[u8], limit: u64, room: u64) {
-    text(name);
-    number(letters as u64);
-    number(frame.len() as u64);
-    number(limit);
-    number(room);
-}
-
-// Number 2, kind 1, into 30 bytes of 255.
+// Kind 1, into 30 bytes of 255.
 fn plain(c: MsgType, frame: &[u8], limit: u64) {
     let mut out = [255u8; 30];
-    head(b"plain", c.len, frame, limit, 30);
-    let written = record::encode_frame_record(&mut out, Kind::Plain, 2, c, frame, limit);
-    answer(written, &out);
+    text(b"plain");
+    write(Kind::Plain, c, frame, limit, &mut out);
 }
 
 // The same, into 26 bytes.
 fn narrow(c: MsgType, frame: &[u8], limit: u64) {
     let mut out = [255u8; 26];
-    head(b"plain", c.len, frame, limit, 26);
-    let written = record::encode_frame_record(&mut out, Kind::Plain, 2, c, frame, limit);
-    answer(written, &out);
+    text(b"plain");
+    write(Kind::Plain, c, frame, limit, &mut out);
 }
 
 // Kind 5 with next sender 9, into 43 bytes.
 fn counter(c: MsgType, frame: &[u8], limit: u64) {
     let mut out = [255u8; 43];
-    head(b"counter", c.len, frame, limit, 43);
-    let kind = Kind::Counter { sender: 9 };
-    let written = record::encode_frame_record(&mut out, kind, 2, c, frame, limit);
-    answer(written, &out);
+    text(b"counter");
+    write(Kind::Counter { sender: 9 }, c, frame, limit, &mut out);
 }
 
 // Each refusal, and each before those that follow it.
@@ -119,10 +112,11 @@ fn written() {
     counter(code(1), b"8=FI", 4);
 }
 
-fn sealed(given: &[u8], done: RecordSealed, out: &[u8]) {
+// So many bytes of 5, sealed with generation 7. Of 28, kind 5 is a byte short of room for a generation.
+fn seal(out: &mut [u8]) {
     text(b"seal");
-    bytes(given);
-    match done {
+    bytes(out);
+    match record::seal_frame_record(out, 7) {
         RecordSealed::Sealed => text(b" sealed"),
         RecordSealed::NotSealed { number: x, place } => refused(x, place),
     }
@@ -130,33 +124,15 @@ fn sealed(given: &[u8], done: RecordSealed, out: &[u8]) {
     text(b"\n");
 }
 
-fn seal_11() {
-    let given = [5u8; 11];
-    let mut out = [5u8; 11];
-    let done = record::seal_frame_record(&mut out, 7);
-    sealed(&given, done, &out);
-}
-
-fn seal_12() {
-    let given = [5u8; 12];
-    let mut out = [5u8; 12];
-    let done = record::seal_frame_record(&mut out, 7);
-    sealed(&given, done, &out);
-}
-
-// Kind 5, a byte short of room for a generation.
-fn seal_28() {
-    let given = [5u8; 28];
-    let mut out = [5u8; 28];
-    let done = record::seal_frame_record(&mut out, 7);
-    sealed(&given, done, &out);
-}
-
-fn seal_29() {
-    let given = [5u8; 29];
-    let mut out = [5u8; 29];
-    let done = record::seal_frame_record(&mut out, 7);
-    sealed(&given, done, &out);
+fn seals() {
+    let mut eleven = [5u8; 11];
+    seal(&mut eleven);
+    let mut twelve = [5u8; 12];
+    seal(&mut twelve);
+    let mut short = [5u8; 28];
+    seal(&mut short);
+    let mut whole = [5u8; 29];
+    seal(&mut whole);
 }
 
 fn found(r: Record) {
@@ -262,10 +238,7 @@ fn unread() {
 fn main() {
     refusals();
     written();
-    seal_11();
-    seal_12();
-    seal_28();
-    seal_29();
+    seals();
     let s = placed(filed());
     looks(&s);
     damaged();

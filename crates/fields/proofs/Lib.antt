@@ -1,3 +1,4 @@
+pub mod Picks
 pub mod Parts
 pub mod Back
 pub mod Widths

@@ -3,10 +3,10 @@
 use mathlib.Core.Path.{_≡_, refl, sym, ap, ap₂, _∙_}
 use mathlib.Core.List.{List, [], _∷_, _++_, append-assoc, append-nil}
 use Prim.Native.Nat.{ℕ, zero, suc, _+_, _*_, _-_, _/_, _%_, _^_, _≤_, _<_}
-use native.Mathlib.Nat.{add-zero, add-suc, suc-add, zero-add}
+use native.Mathlib.Nat.{add-zero, add-suc, suc-add, zero-add, add-assoc}
 use native.Mathlib.Omega.{arith}
 use lib.ListN.{length, getD, take, drop, set, replicate, length-append, length-replicate, replicate-append-replicate, drop-of-length-le, List·getD-append}
-use lib.Seq.{paste, take-length, sets, sets-eq, length-sets, take-at, drop-at, length-take-le, getD-take, getD-drop, getD-append-add}
+use lib.Seq.{paste, take-length, sets, sets-eq, length-sets, take-at, drop-at, take-take, take-add, take-append-le, drop-drop, length-take-le, getD-take, getD-drop, getD-append-add}
 use Rattle.fields.specs.Fields.{le, leBytes, part, put}
 use Rattle.fields.proofs.Back.{le-bytes}
 use Rattle.fields.proofs.Widths.{leBytes-length, leBytes-cut, leBytes-add}
@@ -124,6 +124,28 @@ put-next a b s l t p k n ea eb h e f =
 pub put-whole : (v s : List ℕ) → length s ≤ length v → put v s 0 ≡ v
 unfolding put
 put-whole v s h = rw (zero-add, drop-of-length-le s h) (append-nil v)
+
+-- ---- the parts before and behind, and bytes put twice
+
+pub put-take : (v s : List ℕ) (p n : ℕ) → p ≤ length s → n ≤ p → take n (put v s p) ≡ take n s
+unfolding put
+put-take v s p n h k =
+    rw append-assoc (take-append-le n (take p s) (v ++ drop (p + length v) s) (omega (arith, length-take-le p s h)) ∙ take-take n p s k)
+
+pub put-drop : (v s : List ℕ) (n i : ℕ) → n ≤ length s → drop n (put v s (n + i)) ≡ put v (drop n s) i
+unfolding put
+put-drop v s n i h =
+    let rest : drop (n + i + length v) s ≡ drop (i + length v) (drop n s) = rw add-assoc (sym (drop-drop (i + length v) n s)) in
+    rw (take-add n i s, rest, append-assoc (take n s), append-assoc (take n s)) (drop-at (take n s) (put v (drop n s) i) n (length-take-le n s h))
+
+pub put-twice : (a b s : List ℕ) (p : ℕ) → length a ≡ length b → p + length b ≤ length s → put b (put a s p) p ≡ put b s p
+unfolding put
+put-twice a b s p e h =
+    let front : take p (put a s p) ≡ take p s = put-take a s p p (omega arith) (omega arith) in
+    let size : length (take p s ++ a) ≡ p + length b = omega (arith, length-append (take p s) a, length-take-le p s (omega arith)) in
+    let back : drop (p + length b) (put a s p) ≡ drop (p + length b) s =
+    drop-at (take p s ++ a) (drop (p + length a) s) (p + length b) size ∙ ap (λ (n : ℕ). drop (p + n) s) e in
+    ap₂ (λ (x y : List ℕ). x ++ b ++ y) front back
 
 -- one store puts one byte
 pub set-put : (s : List ℕ) (p x : ℕ) → p < length s → set s p x ≡ put (x ∷ []) s p

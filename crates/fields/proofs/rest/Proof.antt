@@ -1,11 +1,11 @@
 -- `fields::rest` meets its contract: past the end nothing is left.
 -- Assumes nothing.
 use mathlib.Core.Path.{sym}
-use Prim.Native.Nat.{_-_, _≤_}
+use Prim.Native.Nat.{_≤_}
 use native.Mathlib.Omega.{arith}
-use lib.ListN.{length, drop, length-drop, drop-of-length-le}
-use lib.Seq.{take-all}
+use lib.ListN.{length, drop-of-length-le}
 use borrow.Author.Needs.{needs}
+use Rattle.fields.proofs.Parts.{rest-all}
 use Rattle.fields.proofs.rest.Statement.{statement}
 use Rattle.fields.proofs.rest.Tie as tie
 
@@ -36,8 +36,7 @@ part-result-end-2 c = search needs
 returns-2 : tie.Need-returns-2
 returns-2 c =
     let a = c .before .before .args in
-    let s = a .s .now in
-    take-all (length s - a .c .at) (drop (a .c .at) s) (simp length-drop (omega arith))
+    rest-all (a .c .at) (a .s .now)
 
 pub rest-spec : {M : Type 1} → statement M
 rest-spec =

@@ -31,9 +31,11 @@ pub fn read(input: &mut impl Read) -> Result<Option<Vec<u8>>, String> {
 
 /// Writes one frame.
 pub fn write(output: &mut impl Write, frame: &[u8]) -> Result<(), String> {
-    let length = u32::try_from(frame.len()).map_err(|_| "an answer is too long".to_string())?;
+    if frame.len() > LONGEST {
+        return Err(format!("a frame of {} bytes is above {LONGEST}", frame.len()));
+    }
     output
-        .write_all(&length.to_le_bytes())
+        .write_all(&(frame.len() as u32).to_le_bytes())
         .and_then(|()| output.write_all(frame))
         .map_err(|err| format!("cannot write an answer: {err}"))
 }

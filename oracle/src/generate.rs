@@ -4,7 +4,14 @@ use crate::file::crc32::crc32;
 use crate::file::format::{encode_frame_record_into, encode_header, fresh_slots, seal_frame_record, Header, RECORD_HEADER_LEN};
 use crate::message::MsgType;
 use crate::operations::{BODY, CRC, HEADER, HIGHEST_FRAME_LIMIT, NEWEST, PREFIX, RECORD, SEAL, SEEN, SLOT, SLOTS};
+use crate::scan::HIGHEST_BODY_LIMIT;
 use std::time::UNIX_EPOCH;
+
+mod fronts;
+pub mod scans;
+
+/// Makes the request of a turn.
+pub type Make = fn(&mut Numbers, usize) -> Vec<u8>;
 
 /// Numbers at the edges of what the formats hold.
 const EDGES: [u64; 10] = [
@@ -19,9 +26,6 @@ const EDGES: [u64; 10] = [
     u64::MAX - 1,
     u64::MAX,
 ];
-
-/// The highest body limit in the port's domain.
-const HIGHEST_BODY_LIMIT: u64 = 67_108_898;
 
 /// What a good type code doesn't hold: bytes past either edge, UTF-8 of two bytes, and no UTF-8.
 const BAD_IN_CODE: [&[u8]; 7] = [&[0x20], &[0x7F], &[0], &[0x80], &[0xC3, 0xA9], &[0xC3], &[0xFF]];

@@ -1,7 +1,9 @@
 //! A child module of the original's `format.rs`, which `build.rs` declares behind its last line: a child sees what its parent keeps
 //! private. It calls the original and changes nothing in it.
 
-use super::{decode_body, scan_records, DamageRule, MsgType, StoreError, TruncationCause};
+use super::{decode_body, newest_slot, scan_records, DamageRule, IndexEntry, MsgType, SlotImages, StoreError, TruncationCause};
+use super::{DATA_START, SLOT_LEN, SLOT_OFFSETS};
+use std::collections::HashSet;
 
 /// What the original reads in a record's body.
 pub(crate) struct Contents {
@@ -44,4 +46,46 @@ pub(crate) fn first(bytes: &[u8], max_body: u64) -> Result<First, String> {
         (None, Err(error)) => Ok(First::Refused(error)),
         (_, Ok(found)) => Err(format!("the original's scan does not stop at the first record: {found:?}")),
     }
+}
+
+/// The records that the original's scan takes.
+pub(crate) struct Walk {
+    /// The message number and the entry of each, in the journal's order.
+    pub(crate) taken: Vec<(u64, IndexEntry)>,
+    /// Where the first record stands whose number the room doesn't hold. The walk is stopped there, before the record is taken.
+    pub(crate) full: Option<u64>,
+}
+
+impl Walk {
+    /// Where the records end that are taken.
+    pub(crate) fn end(&self) -> u64 {
+        self.taken.last().map_or(DATA_START, |(_, entry)| entry.offset + entry.record_len())
+    }
+}
+
+/// The slot's image at a place.
+fn image(journal: &[u8], at: u64) -> [u8; SLOT_LEN] {
+    journal.get(at as usize..).and_then(|rest| rest.first_chunk()).copied().unwrap_or([0xFF; SLOT_LEN])
+}
+
+/// Walks over the records of a journal whose front stands, for an index of so many entries.
+pub(crate) fn walk(journal: &[u8], max_body: u64, rule: DamageRule, room: usize) -> Result<Walk, String> {
+    let images: SlotImages = SLOT_OFFSETS.map(|at| image(journal, at));
+    let (_, slot) = newest_slot(&images).map_err(|error| format!("the front does not stand: {error:?}"))?;
+    let mut records = journal.get(DATA_START as usize..).ok_or("the front is not whole")?;
+    let (mut taken, mut full) = (Vec::new(), None);
+    let mut numbers = HashSet::new();
+    let take = |offset, body_len, body: &[u8]| {
+        let number = decode_body(body)?.seq;
+        if numbers.len() == room && !numbers.contains(&number) {
+            full = Some(offset);
+            return Err("the index is full".to_string());
+        }
+        numbers.insert(number);
+        taken.push((number, IndexEntry { offset, body_len }));
+        Ok(())
+    };
+    // What the walk ends with is the scan's to say.
+    let _ = scan_records(&mut records, DATA_START, journal.len() as u64, max_body, rule, slot.durable_end, take);
+    Ok(Walk { taken, full })
 }

@@ -5,7 +5,7 @@ use crate::file::format::inner::{self, Contents, First};
 use crate::file::format::{self, DamageRule, Header, Slot, SlotImages, TruncationCause, HEADER_LEN, RECORD_HEADER_LEN, SLOT_LEN};
 use crate::frames::{Answer, Fields, NOT_ASKED};
 use crate::message::MsgType;
-use crate::refusals;
+use crate::{refusals, scan};
 use std::time::{Duration, SystemTime, UNIX_EPOCH};
 
 pub const CRC: u8 = 1;
@@ -18,9 +18,10 @@ pub const RECORD: u8 = 7;
 pub const SEAL: u8 = 8;
 pub const BODY: u8 = 9;
 pub const SEEN: u8 = 10;
+pub const SCAN: u8 = 11;
 
-const NAMES: [&str; 11] =
-    ["none", "crc", "header", "slot", "newest", "slots", "prefix", "record", "seal", "body", "seen"];
+const NAMES: [&str; 12] =
+    ["none", "crc", "header", "slot", "newest", "slots", "prefix", "record", "seal", "body", "seen", "scan"];
 
 /// The highest frame limit in the port's domain.
 pub(crate) const HIGHEST_FRAME_LIMIT: u64 = 67_108_864;
@@ -48,15 +49,17 @@ pub fn answer(request: &[u8]) -> Result<Vec<u8>, String> {
         SEAL => seal(fields),
         BODY => body(fields),
         SEEN => seen(fields),
+        SCAN => scan::answer(fields),
         other => Err(format!("no operation has the number {other}")),
     }
 }
 
-/// The result's first byte, where the operation says with it what it found and refuses nothing.
-pub fn found(request: &[u8], answer: &[u8]) -> Option<u8> {
-    match request.first() {
-        Some(&(BODY | SEEN)) => answer.get(9).copied(),
-        _ => None,
+/// What an answer says beside its refusal, in words for the counts. `body` and `seen` say it with the result's first byte.
+pub fn found(request: &[u8], answer: &[u8]) -> String {
+    match (request.first(), answer.get(9)) {
+        (Some(&(BODY | SEEN)), Some(found)) => format!(" found {found}"),
+        (Some(&SCAN), _) => scan::found(request, answer),
+        _ => String::new(),
     }
 }
 
@@ -67,6 +70,13 @@ fn crc(mut fields: Fields) -> Result<Vec<u8>, String> {
     fields.end()?;
     let joined = [first, more].concat();
     Ok(Answer::new(0, 0).u32(crc32(&joined)).done())
+}
+
+/// A header's fields.
+pub(crate) fn with_header(answer: Answer, header: &Header) -> Result<Answer, String> {
+    let time = header.creation_time.duration_since(UNIX_EPOCH).map_err(|err| err.to_string())?;
+    let answer = answer.u64(time.as_secs()).u32(time.subsec_nanos());
+    Ok(answer.u64(header.next_sender).u64(header.next_target))
 }
 
 /// The header at the start of the bytes.
@@ -82,11 +92,7 @@ fn header(mut fields: Fields) -> Result<Vec<u8>, String> {
         },
     };
     match found {
-        Ok(header) => {
-            let time = header.creation_time.duration_since(UNIX_EPOCH).map_err(|err| err.to_string())?;
-            let answer = Answer::new(0, 0).u64(time.as_secs()).u32(time.subsec_nanos());
-            Ok(answer.u64(header.next_sender).u64(header.next_target).done())
-        }
+        Ok(header) => Ok(with_header(Answer::new(0, 0), &header)?.done()),
         Err(error) => Ok(Answer::new(refusals::number(&error)?, 0).array(&[0; 28]).done()),
     }
 }
@@ -282,7 +288,7 @@ fn seen(mut fields: Fields) -> Result<Vec<u8>, String> {
 }
 
 /// Whether the port's answer is right where the original can't be asked: what the port adds, with zeros in the result's fields and no
-/// lent byte changed.
+/// lent byte changed, but for the entries that a scan filed before its index was full.
 pub fn added(request: &[u8], answer: &[u8]) -> Result<bool, String> {
     let mut fields = Fields::new(request);
     match fields.u8()? {
@@ -314,6 +320,7 @@ pub fn added(request: &[u8], answer: &[u8]) -> Result<bool, String> {
             Ok(answer == Answer::new(22, 0).run(fields.run()?).done())
         }
         SEEN => Ok(answer == unsound(1)),
+        SCAN => scan::added(fields, answer),
         other => Err(format!("the original can be asked each request of operation {other}")),
     }
 }

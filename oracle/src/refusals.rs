@@ -3,7 +3,7 @@
 use crate::error::StoreError;
 
 /// How an error's text starts, how it ends, and the number that it stands for. `#` is any number.
-const CORRUPTED: [(&str, &str, u8); 19] = [
+const CORRUPTED: [(&str, &str, u8); 20] = [
     ("journal is ", "-byte header", 1),
     ("journal header fails its checksum", "", 2),
     ("file does not start with the journal magic", "", 3),
@@ -23,8 +23,10 @@ const CORRUPTED: [(&str, &str, u8); 19] = [
     ("record at offset #: unknown record kind #", "", 14),
     ("record at offset #: record of kind # is shorter than its fields", "", 14),
     ("record at offset #: record for MsgSeqNum # carries an invalid MsgType", "", 14),
+    (EXHAUSTED.0, "", EXHAUSTED.1),
 ];
 
+/// The scan's text whole; that of fresh slots goes on.
 const EXHAUSTED: (&str, u8) = ("the journal's generation sequence is exhausted", 15);
 
 const TOO_LONG: (&str, u8) = ("frame of # bytes is above the store's #-byte limit", 19);
@@ -56,26 +58,44 @@ pub fn number(error: &StoreError) -> Result<u8, String> {
     known.ok_or_else(|| format!("the original answers an error that is not known: {error:?}"))
 }
 
+/// The number behind the first `at offset` in a text.
+fn offset(text: &str) -> Option<u64> {
+    let (_, rest) = text.split_once("at offset ")?;
+    let digits = rest.split(|letter: char| !letter.is_ascii_digit()).next()?;
+    digits.parse().ok()
+}
+
+/// The number and the place of an error of the scan. Only what is met among the records has a place, and its text names it.
+pub fn number_and_place(error: &StoreError) -> Result<(u8, u64), String> {
+    match (number(error)?, error) {
+        (number @ 10..=14, StoreError::Corrupted { reason }) => {
+            let place = offset(reason).ok_or_else(|| format!("the original's error names no place: {reason}"))?;
+            Ok((number, place))
+        }
+        (number, _) => Ok((number, 0)),
+    }
+}
+
 #[cfg(test)]
 mod tests {
-    use super::number;
+    use super::{number, number_and_place};
     use crate::error::StoreError;
     use crate::file::format::{encode_prefix, fresh_slots, scan, seal_frame_record, DamageRule, Header};
     use std::time::UNIX_EPOCH;
 
-    /// What a journal of these records is refused with, under Tail of no records and body limit 100.
-    fn refused(durable_end: u64, records: &[u8]) -> u8 {
+    /// What a journal of these records is refused with, and where, under Tail of no records and body limit 100.
+    fn refused(durable_end: u64, records: &[u8]) -> (u8, u64) {
         let header = Header { creation_time: UNIX_EPOCH, next_sender: 1, next_target: 1 };
         let (slots, _) = fresh_slots(1, 1, 1, durable_end, 0, false).expect("generation 1 stands");
         let journal = [&encode_prefix(&header, &slots), records].concat();
         let error = scan(&journal[..], journal.len() as u64, 100, DamageRule::Tail { records: 0 });
-        number(&error.expect_err("the journal is refused")).expect("the error is known")
+        number_and_place(&error.expect_err("the journal is refused")).expect("the error is known")
     }
 
     /// The record of a body, sealed.
-    fn record(body: &[u8]) -> Vec<u8> {
+    fn record(body: &[u8], generation: u64) -> Vec<u8> {
         let mut record = [&[body.len() as u8, 0, 0, 0, 0, 0, 0, 0, 0, 0, 0, 0], body].concat();
-        seal_frame_record(&mut record, 0);
+        seal_frame_record(&mut record, generation);
         record
     }
 
@@ -83,17 +103,28 @@ mod tests {
     fn refusals_of_the_scan() {
         let wrong_crc = [1, 0, 0, 0, 0xFE, 0xFF, 0xFF, 0xFF, 0, 0, 0, 0, 1, 1];
         let no_length = [0, 0, 0, 0, 0xFF, 0xFF, 0xFF, 0xFF, 0, 0, 0, 0];
-        assert_eq!(refused(12_289, &[]), 10);
-        assert_eq!(refused(12_289, &[1; 11]), 10);
-        assert_eq!(refused(12_289, &[0; 12]), 10);
-        assert_eq!(refused(12_289, &wrong_crc), 10);
-        assert_eq!(refused(12_288, &[1; 12]), 11);
-        assert_eq!(refused(12_288, &wrong_crc), 12);
-        assert_eq!(refused(12_288, &no_length), 13);
-        assert_eq!(refused(12_289, &no_length), 13);
-        assert_eq!(refused(12_288, &record(&[2; 40])), 14);
-        assert_eq!(refused(12_288, &record(&[5; 24])), 14);
-        assert_eq!(refused(12_288, &record(&[1, 0, 0, 0, 0, 0, 0, 0, 0, 0])), 14);
+        let sound = record(&[1, 9, 9, 9, 9, 9, 9, 9, 9, 1, b'D'], 0);
+        // The durable end less 12,288, what stands behind the records, and the number.
+        let cases: [(u64, &[u8], u8); 11] = [
+            (1, &[], 10),
+            (1, &[1; 11], 10),
+            (1, &[0; 12], 10),
+            (1, &wrong_crc, 10),
+            (0, &[1; 12], 11),
+            (0, &wrong_crc, 12),
+            (0, &no_length, 13),
+            (1, &no_length, 13),
+            (0, &record(&[2; 40], 0), 14),
+            (0, &record(&[5; 24], 0), 14),
+            (0, &record(&[1, 0, 0, 0, 0, 0, 0, 0, 0, 0], 0), 14),
+        ];
+        for (past, rest, number) in cases {
+            assert_eq!(refused(12_288 + past, rest), (number, 12_288));
+            assert_eq!(refused(12_311 + past, &[&sound[..], rest].concat()), (number, 12_311));
+        }
+        let mut last = [0; 27];
+        (last[0], last[25], last[26]) = (5, 1, b'D');
+        assert_eq!(refused(12_288, &record(&last, u64::MAX)), (15, 0));
     }
 
     #[test]

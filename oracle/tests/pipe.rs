@@ -1,14 +1,17 @@
-//! The oracle over its pipes: the published CRC-32s, records, frames, and requests that stop it.
+//! The oracle over its pipes: the published CRC-32s, records, scans, frames, and requests that stop it.
 
 use oracle::operations;
 use std::io::Write;
 use std::process::{Command, Output, Stdio};
 
 const CRC: u8 = 1;
+const SLOTS: u8 = 5;
+const PREFIX: u8 = 6;
 const RECORD: u8 = 7;
 const SEAL: u8 = 8;
 const BODY: u8 = 9;
 const SEEN: u8 = 10;
+const SCAN: u8 = 11;
 
 fn run(bytes: &[u8]) -> Vec<u8> {
     [&(bytes.len() as u32).to_le_bytes(), bytes].concat()
@@ -212,14 +215,20 @@ fn a_body_that_does_not_read() {
 }
 
 /// The original can't be asked this, and the port is held to one answer.
-fn not_asked(request: &[u8], number: u8, rest: &[u8]) {
+fn not_asked_at(place: u64, request: &[u8], number: u8, rest: &[u8]) {
     assert_eq!(ask(request), [255, 0, 0, 0, 0, 0, 0, 0, 0]);
     for tried in 0..=255 {
-        let answer = [&[tried], &[0; 8][..], rest].concat();
+        let answer = [&[tried], &place.to_le_bytes()[..], rest].concat();
         assert_eq!(operations::added(request, &answer), Ok(tried == number));
     }
-    let touched = [&[number], &[0; 8][..], &rest[..rest.len() - 1], &[0xAA]].concat();
+    let touched = [&[number], &place.to_le_bytes()[..], &rest[..rest.len() - 1], &[0xAA]].concat();
     assert_eq!(operations::added(request, &touched), Ok(false));
+    let elsewhere = [&[number], &(place + 1).to_le_bytes()[..], rest].concat();
+    assert_eq!(operations::added(request, &elsewhere), Ok(false));
+}
+
+fn not_asked(request: &[u8], number: u8, rest: &[u8]) {
+    not_asked_at(0, request, number, rest);
 }
 
 #[test]
@@ -251,4 +260,156 @@ fn a_frame_above_the_limit() {
 #[test]
 fn a_record_of_another_kind_stops_it() {
     stops(&run(&record(2, 1, 4, &[0; 50])), "a request has 2 for a record's kind");
+}
+
+const TAIL: u8 = 1;
+const ANYWHERE: u8 = 2;
+const SALVAGE: u8 = 3;
+
+fn words(numbers: &[u64]) -> Vec<u8> {
+    numbers.iter().flat_map(|number| number.to_le_bytes()).collect()
+}
+
+/// A journal with slots of generations 1 and 2: sender 7, target 9, the durable end, watermark 6, a reset owed.
+fn journal(durable_end: u64, records: &[u8]) -> Vec<u8> {
+    let slots = ask(&[&[SLOTS], &words(&[1, 7, 9, durable_end, 6])[..], &[1]].concat());
+    let header = [&words(&[1_700_000_000])[..], &[5, 0, 0, 0], &words(&[3, 4])].concat();
+    let prefix = ask(&[&[PREFIX], &header[..], &slots[17..], &run(&[0; 12_288])].concat());
+    [&prefix[21..], records].concat()
+}
+
+fn index(entries: &[[u64; 3]]) -> Vec<u8> {
+    [&(entries.len() as u32).to_le_bytes(), &words(entries.as_flattened())[..]].concat()
+}
+
+fn scan(rule: u8, records: u64, limit: u64, lent: &[[u64; 3]], journal: &[u8]) -> Vec<u8> {
+    [&[SCAN, rule], &words(&[records, limit])[..], &index(lent), &run(journal)].concat()
+}
+
+/// What a scan of `journal` answers, where it opens.
+struct Opened<'a> {
+    entries: &'a [[u64; 3]],
+    count: u64,
+    end: u64,
+    cut: (u8, u64),
+    dead: u64,
+    sender: u64,
+    generation: u64,
+    boundary: u64,
+    stale: u8,
+}
+
+/// Opens with no record.
+const EMPTY: Opened =
+    Opened { entries: &[], count: 0, end: 12_288, cut: (0, 0), dead: 0, sender: 7, generation: 3, boundary: 12_288, stale: 0 };
+
+fn opened(journal: &[u8], result: Opened) -> Vec<u8> {
+    let slots = [&journal[4096..4148], &journal[8192..8244]].concat();
+    let ends = [&words(&[result.count, result.end])[..], &[result.cut.0], &words(&[result.cut.1, result.dead])].concat();
+    let counters = words(&[result.sender, 9, result.generation, result.boundary, 6]);
+    let rest = [&[1][..], &ends, &counters, &[1, result.stale], &index(result.entries)].concat();
+    [&[0; 9], &journal[12..40], &slots, &rest].concat()
+}
+
+fn refused(number: u8, place: u64, left: &[[u64; 3]]) -> Vec<u8> {
+    [&[number], &words(&[place])[..], &[0; 208], &index(left)].concat()
+}
+
+#[test]
+fn a_journal_without_records() {
+    let whole = journal(12_288, &[]);
+    assert_eq!(ask(&scan(TAIL, 0, 100, &[], &whole)), opened(&whole, EMPTY));
+    assert_eq!(ask(&scan(TAIL, 0, 67_108_898, &[], &whole)), opened(&whole, EMPTY));
+    assert_eq!(ask(&scan(TAIL, 0, 100, &[], &whole[..12_287])), refused(7, 0, &[]));
+    assert_eq!(ask(&scan(TAIL, 0, 100, &[], &whole[..43])), refused(1, 0, &[]));
+    let stale = journal(12_289, &[]);
+    assert_eq!(ask(&scan(TAIL, 0, 100, &[], &stale)), refused(10, 12_288, &[]));
+    assert_eq!(ask(&scan(ANYWHERE, 0, 100, &[], &stale)), opened(&stale, Opened { boundary: 12_289, stale: 1, ..EMPTY }));
+}
+
+/// Under Tail of N records and limit 100, past the durable end, these bytes are cut as damaged, or refused with the number.
+fn tail(records: u64, bytes: &[u8], refusal: u8) {
+    let whole = journal(12_288, bytes);
+    let lent = [[1, 2, 3]; 2];
+    let expected = match refusal {
+        0 => opened(&whole, Opened { entries: &lent, cut: (2, bytes.len() as u64), ..EMPTY }),
+        number => refused(number, 12_288, &lent),
+    };
+    assert_eq!(ask(&scan(TAIL, records, 100, &lent, &whole)), expected, "N {records}: {bytes:02x?}");
+}
+
+#[test]
+fn damage_past_the_durable_end() {
+    // The complement, inside the window and past it, and with zeros alone.
+    tail(2, &[1; 224], 0);
+    tail(2, &[1; 225], 11);
+    tail(u64::MAX, &[1; 225], 0);
+    tail(0, &[0; 300], 0);
+    tail(0, &[&[0; 299][..], &[1]].concat(), 11);
+    // The CRC-32: last, with zeros behind it, and with others, which one record's window doesn't excuse.
+    let wrong_crc = changed(26, 2);
+    tail(1, &wrong_crc, 0);
+    tail(1, &[&wrong_crc[..], &[0; 5]].concat(), 0);
+    tail(1, &[&wrong_crc[..], KIND_1].concat(), 12);
+    tail(2, &[&wrong_crc[..], KIND_1].concat(), 0);
+}
+
+#[test]
+fn no_length_is_refused_below_the_durable_end_too() {
+    let no_length = b"\0\0\0\0\xFF\xFF\xFF\xFF\0\0\0\0";
+    for durable_end in [12_288, 12_300] {
+        let whole = journal(durable_end, no_length);
+        assert_eq!(ask(&scan(TAIL, 1, 100, &[], &whole)), refused(13, 12_288, &[]));
+        assert_eq!(ask(&scan(ANYWHERE, 1, 100, &[], &whole)), refused(13, 12_288, &[]));
+        let stale = u8::from(durable_end > 12_288);
+        let cut = Opened { cut: (2, 12), boundary: durable_end, stale, ..EMPTY };
+        assert_eq!(ask(&scan(SALVAGE, 1, 100, &[], &whole)), opened(&whole, cut));
+    }
+}
+
+#[test]
+fn a_number_met_again() {
+    // Number 7 without a counter, 8, and 7 again, of generation 3 with sender 9; then a torn record.
+    let eight = ask(&seal(0, &changed(13, 8)))[13..].to_vec();
+    let whole = journal(12_315, &[KIND_1, &eight, KIND_5, &KIND_1[..26]].concat());
+    let (first, last) = ([7, 12_288, 15], [7, 12_342, 31]);
+    let (other, lent) = ([8, 12_315, 15], [7, 12_288, 15]);
+    let result = Opened {
+        entries: &[last, other, lent],
+        count: 2,
+        end: 12_385,
+        cut: (1, 26),
+        dead: 27,
+        sender: 9,
+        generation: 4,
+        boundary: 12_315,
+        ..EMPTY
+    };
+    assert_eq!(ask(&scan(TAIL, 0, 31, &[lent; 3], &whole)), opened(&whole, result));
+    // The third body is above the limit: the entries of the first two are left.
+    assert_eq!(ask(&scan(TAIL, 0, 30, &[lent; 3], &whole)), refused(13, 12_342, &[first, other, lent]));
+}
+
+#[test]
+fn scans_that_the_original_cannot_be_asked() {
+    let eight = ask(&seal(0, &changed(13, 8)))[13..].to_vec();
+    let whole = journal(12_288, &[KIND_1, KIND_1, &eight, &[1; 12]].concat());
+    let rest = |left: &[[u64; 3]]| [&[0; 208], &index(left)[..]].concat();
+    let lent = [[8, 1, 1]; 3];
+    for rule in [TAIL, ANYWHERE, SALVAGE] {
+        not_asked_at(12_288, &scan(rule, 9, 100, &[], &whole), 16, &rest(&[]));
+        not_asked_at(12_342, &scan(rule, 9, 100, &lent[..1], &whole), 16, &rest(&[[7, 12_315, 15]]));
+        not_asked(&scan(rule, 9, 67_108_899, &lent, &whole), 17, &rest(&lent));
+        not_asked(&scan(rule, 9, u64::MAX, &lent, &[]), 17, &rest(&lent));
+    }
+    // What the front refuses comes before, and what the walk meets earlier.
+    assert_eq!(ask(&scan(TAIL, 0, 100, &[], &whole[..12_287])), refused(7, 0, &[]));
+    assert_eq!(ask(&scan(TAIL, 0, 14, &[], &whole)), refused(13, 12_288, &[]));
+}
+
+#[test]
+fn scans_that_stop_it() {
+    stops(&run(&scan(4, 0, 100, &[], &[])), "a request has 4 for a rule");
+    // The request is short enough, its answer isn't.
+    stops(&run(&scan(TAIL, 0, 100, &[[0; 3]; 10_920], &[])), "a frame of 262301 bytes is above 262144");
 }

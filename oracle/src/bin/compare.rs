@@ -1,9 +1,11 @@
 //! compare SEED COUNT COMMAND..: sends COUNT requests, made from SEED, to COMMAND, which answers the oracle's protocol, and holds each
 //! answer to the original's. Prints how many were compared, by operation and by refusal, and of `body` and `seen` by what was found; a
 //! difference is printed whole and ends it.
+//!
+//! compare scans SEED COUNT COMMAND..: the same with scans alone, counted by their rule and their cut too.
 
 use oracle::frames::{self, NOT_ASKED};
-use oracle::generate::{self, Numbers};
+use oracle::generate::{self, Make, Numbers};
 use oracle::operations;
 use std::collections::BTreeMap;
 use std::io::{BufReader, BufWriter, Write};
@@ -19,17 +21,26 @@ fn main() -> ExitCode {
     }
 }
 
+const USAGE: &str = "usage: compare [scans] SEED COUNT COMMAND..";
+
 fn number(word: Option<String>) -> Result<u64, String> {
-    word.and_then(|word| word.parse().ok())
-        .ok_or_else(|| "usage: compare SEED COUNT COMMAND..".to_string())
+    word.and_then(|word| word.parse().ok()).ok_or_else(|| USAGE.to_string())
+}
+
+/// The requests that a seed makes, one after the other.
+fn requests(make: Make, seed: u64, count: u64) -> impl Iterator<Item = Vec<u8>> {
+    let mut numbers = Numbers::new(seed);
+    (0..count as usize).map(move |turn| make(&mut numbers, turn))
 }
 
 fn compare() -> Result<(), String> {
-    let mut words = std::env::args().skip(1);
+    let mut words = std::env::args().skip(1).peekable();
+    let make = match words.next_if(|word| word == "scans") {
+        Some(_) => generate::scans::request,
+        None => generate::request,
+    };
     let (seed, count) = (number(words.next())?, number(words.next())?);
-    let command = words.next().ok_or("usage: compare SEED COUNT COMMAND..")?;
-    let mut numbers = Numbers::new(seed);
-    let requests: Vec<Vec<u8>> = (0..count as usize).map(|turn| generate::request(&mut numbers, turn)).collect();
+    let command = words.next().ok_or(USAGE)?;
 
     let mut port = Command::new(&command)
         .args(words)
@@ -39,29 +50,28 @@ fn compare() -> Result<(), String> {
         .map_err(|err| format!("cannot start {command}: {err}"))?;
     let mut input = BufWriter::new(port.stdin.take().ok_or("the port has no input")?);
     let mut output = BufReader::new(port.stdout.take().ok_or("the port has no output")?);
-    let sent = requests.clone();
     let sender = std::thread::spawn(move || {
         // A port that ends early is found by its answers.
-        let _ = sent.iter().try_for_each(|request| frames::write(&mut input, request));
+        let _ = requests(make, seed, count).try_for_each(|request| frames::write(&mut input, &request));
         let _ = input.flush();
     });
 
-    let mut counts: BTreeMap<(&str, u8, Option<u8>), u64> = BTreeMap::new();
-    for request in &requests {
-        let original = operations::answer(request)?;
+    let mut counts: BTreeMap<(&str, u8, String), u64> = BTreeMap::new();
+    // The seed makes the same requests again: so none is kept.
+    for request in requests(make, seed, count) {
+        let original = operations::answer(&request)?;
         let answer = frames::read(&mut output)?.unwrap_or_default();
         let asked = original.first() != Some(&NOT_ASKED);
-        let same = if asked { answer == original } else { operations::added(request, &answer)? };
+        let same = if asked { answer == original } else { operations::added(&request, &answer)? };
         if !same {
-            return Err(format!("a difference\nrequest  {}\noriginal {}\nport     {}", hex(request), hex(&original), hex(&answer)));
+            return Err(format!("a difference\nrequest  {}\noriginal {}\nport     {}", hex(&request), hex(&original), hex(&answer)));
         }
         let refusal = answer.first().copied().unwrap_or(0);
-        let found = operations::found(request, &answer);
-        *counts.entry((operations::name(request), refusal, found)).or_default() += 1;
+        let found = operations::found(&request, &answer);
+        *counts.entry((operations::name(&request), refusal, found)).or_default() += 1;
     }
     sender.join().map_err(|_| "the sender failed")?;
     for ((name, refusal, found), count) in counts {
-        let found = found.map_or(String::new(), |found| format!(" found {found}"));
         println!("{name} {refusal}{found}: {count}");
     }
     println!("{count} requests compared, no difference");

@@ -243,7 +243,9 @@ fn damage(numbers: &mut Numbers, journal: &mut Vec<u8>) {
 
 /// The next request: each rule in turn.
 pub fn request(numbers: &mut Numbers, turn: usize) -> Vec<u8> {
-    let count = numbers.below(13);
+    // Now and then many, so that a search has more than a few entries to halve.
+    let most = if numbers.one_in(16) { 120 } else { 13 };
+    let count = numbers.below(most);
     let slot = generation(numbers);
     // One record more than stand whole: the tail is made of it.
     let known = message_numbers(numbers, count + 1);

@@ -15,7 +15,7 @@ pub fn entries() -> [u32; 256]
 }
 
 // The register after the bytes, by a table that is right at each entry.
-pub fn run(table: &[u32; 256], state: u32, bytes: &[u8]) -> u32
+pub(crate) fn run(table: &[u32; 256], state: u32, bytes: &[u8]) -> u32
     requires { ⌜ Tabled (now table) ⌝ }
     ensures { λ r. ⌜ r ≡ crcFrom state (now (bytes .entry)) ⌝ }
 {

@@ -58,4 +58,19 @@ struct bulvreden_found {
 struct bulvreden_found bulvreden_scan(const uint8_t *journal, size_t length, uint64_t kind, uint64_t records, uint64_t limit,
                                       struct bulvreden_entry *entries, size_t room);
 
+/* What a re-read answers. Read: number is 0, and the frame is the length bytes at journal + frame. Refused: number, and zeros elsewhere.
+ * code: the message type, letters its length; the bytes past it are zero. place: always 0. */
+struct bulvreden_message {
+    uint64_t number;
+    uint64_t place;
+    uint64_t frame;
+    uint64_t length;
+    uint64_t letters;
+    uint8_t code[8];
+};
+
+/* Reads a message again, by its entry and its number: the record must stand whole where the entry says and be sound, and the message
+ * number in it must be the one that is asked for. The entry's own number isn't looked at. */
+struct bulvreden_message bulvreden_reread(const uint8_t *journal, size_t length, struct bulvreden_entry entry, uint64_t number);
+
 #endif

@@ -8,7 +8,8 @@ use crate::scan::HIGHEST_BODY_LIMIT;
 use std::time::UNIX_EPOCH;
 
 mod fronts;
-pub mod scans;
+mod rereads;
+mod scans;
 
 /// Makes the request of a turn.
 pub type Make = fn(&mut Numbers, usize) -> Vec<u8>;
@@ -422,4 +423,12 @@ fn seen(numbers: &mut Numbers) -> Vec<u8> {
 pub fn request(numbers: &mut Numbers, turn: usize) -> Vec<u8> {
     let makers = [crc, header, slot, newest, slots, prefix, record, seal, body, seen];
     makers[turn % makers.len()](numbers)
+}
+
+/// The next request of those that the library answers: two scans, then a re-read.
+pub fn library(numbers: &mut Numbers, turn: usize) -> Vec<u8> {
+    match turn % 3 {
+        2 => rereads::request(numbers),
+        _ => scans::request(numbers, turn - turn / 3),
+    }
 }

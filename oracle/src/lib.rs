@@ -8,6 +8,7 @@ pub mod frames;
 pub mod generate;
 pub mod operations;
 mod refusals;
+mod reread;
 mod scan;
 // The original is compiled whole, though not every part of it is asked.
 #[allow(dead_code)]

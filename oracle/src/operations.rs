@@ -5,7 +5,7 @@ use crate::file::format::inner::{self, Contents, First};
 use crate::file::format::{self, DamageRule, Header, Slot, SlotImages, TruncationCause, HEADER_LEN, RECORD_HEADER_LEN, SLOT_LEN};
 use crate::frames::{Answer, Fields, NOT_ASKED};
 use crate::message::MsgType;
-use crate::{refusals, scan};
+use crate::{refusals, reread, scan};
 use std::time::{Duration, SystemTime, UNIX_EPOCH};
 
 pub const CRC: u8 = 1;
@@ -19,9 +19,10 @@ pub const SEAL: u8 = 8;
 pub const BODY: u8 = 9;
 pub const SEEN: u8 = 10;
 pub const SCAN: u8 = 11;
+pub const REREAD: u8 = 12;
 
-const NAMES: [&str; 12] =
-    ["none", "crc", "header", "slot", "newest", "slots", "prefix", "record", "seal", "body", "seen", "scan"];
+const NAMES: [&str; 13] =
+    ["none", "crc", "header", "slot", "newest", "slots", "prefix", "record", "seal", "body", "seen", "scan", "reread"];
 
 /// The highest frame limit in the port's domain.
 pub(crate) const HIGHEST_FRAME_LIMIT: u64 = 67_108_864;
@@ -50,6 +51,7 @@ pub fn answer(request: &[u8]) -> Result<Vec<u8>, String> {
         BODY => body(fields),
         SEEN => seen(fields),
         SCAN => scan::answer(fields),
+        REREAD => reread::answer(fields),
         other => Err(format!("no operation has the number {other}")),
     }
 }
@@ -229,14 +231,19 @@ fn seal(mut fields: Fields) -> Result<Vec<u8>, String> {
     Ok(Answer::new(0, 0).run(&record).done())
 }
 
+/// A type code's eight bytes, with zeros past its length, and its length.
+pub(crate) fn with_code(answer: Answer, code: &MsgType) -> Answer {
+    let code = code.as_str().as_bytes();
+    let mut bytes = [0; 8];
+    bytes[..code.len()].copy_from_slice(code);
+    answer.array(&bytes).u8(code.len() as u8)
+}
+
 fn with_contents(answer: Answer, contents: &Contents) -> Answer {
     let kind = if contents.counter.is_some() { 5 } else { 1 };
     let (generation, sender) = contents.counter.unwrap_or((0, 0));
-    let code = contents.code.as_str().as_bytes();
-    let mut bytes = [0; 8];
-    bytes[..code.len()].copy_from_slice(code);
     let answer = answer.u8(kind).u64(contents.number).u64(generation).u64(sender);
-    answer.array(&bytes).u8(code.len() as u8).u64(contents.frame as u64)
+    with_code(answer, &contents.code).u64(contents.frame as u64)
 }
 
 /// What a body holds.
@@ -321,6 +328,7 @@ pub fn added(request: &[u8], answer: &[u8]) -> Result<bool, String> {
         }
         SEEN => Ok(answer == unsound(1)),
         SCAN => scan::added(fields, answer),
+        REREAD => reread::added(fields, answer),
         other => Err(format!("the original can be asked each request of operation {other}")),
     }
 }

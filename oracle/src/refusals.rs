@@ -3,7 +3,7 @@
 use crate::error::StoreError;
 
 /// How an error's text starts, how it ends, and the number that it stands for. `#` is any number.
-const CORRUPTED: [(&str, &str, u8); 20] = [
+const CORRUPTED: [(&str, &str, u8); 28] = [
     ("journal is ", "-byte header", 1),
     ("journal header fails its checksum", "", 2),
     ("file does not start with the journal magic", "", 3),
@@ -24,6 +24,14 @@ const CORRUPTED: [(&str, &str, u8); 20] = [
     ("record at offset #: record of kind # is shorter than its fields", "", 14),
     ("record at offset #: record for MsgSeqNum # carries an invalid MsgType", "", 14),
     (EXHAUSTED.0, "", EXHAUSTED.1),
+    ("record for MsgSeqNum # at offset # is no longer whole in the journal", "", 23),
+    ("record for MsgSeqNum # at offset # no longer matches the index", "", 24),
+    ("record for MsgSeqNum # at offset # fails its checksum", "", 25),
+    ("record for MsgSeqNum # at offset # empty record body", "", 26),
+    ("record for MsgSeqNum # at offset # unknown record kind #", "", 26),
+    ("record for MsgSeqNum # at offset # record of kind # is shorter than its fields", "", 26),
+    ("record for MsgSeqNum # at offset # record for MsgSeqNum # carries an invalid MsgType", "", 26),
+    ("record for MsgSeqNum # at offset # is not that message's frame", "", 27),
 ];
 
 /// The scan's text whole; that of fresh slots goes on.
@@ -80,7 +88,8 @@ pub fn number_and_place(error: &StoreError) -> Result<(u8, u64), String> {
 mod tests {
     use super::{number, number_and_place};
     use crate::error::StoreError;
-    use crate::file::format::{encode_prefix, fresh_slots, scan, seal_frame_record, DamageRule, Header};
+    use crate::file::format::{encode_prefix, fresh_slots, read_frame, scan, seal_frame_record, DamageRule, Header, IndexEntry};
+    use crate::reread::Journal;
     use std::time::UNIX_EPOCH;
 
     /// What a journal of these records is refused with, and where, under Tail of no records and body limit 100.
@@ -127,9 +136,50 @@ mod tests {
         assert_eq!(refused(12_288, &record(&last, u64::MAX)), (15, 0));
     }
 
+    /// What message 9 is refused with, read again at 2 behind two other bytes.
+    fn refused_again(record: &[u8], body_len: u32) -> u8 {
+        let journal = [b"..", record].concat();
+        let error = read_frame(&mut Journal(&journal), 9, IndexEntry { offset: 2, body_len });
+        number(&error.expect_err("the message is refused")).expect("the error is known")
+    }
+
+    #[test]
+    fn refusals_of_a_reread() {
+        let sound = record(&[1, 9, 0, 0, 0, 0, 0, 0, 0, 1, b'D'], 0);
+        let changed = |at: usize| {
+            let mut record = sound.clone();
+            record[at] ^= 1;
+            record
+        };
+        let no_body = record(&[], 0);
+        assert_eq!(no_body, [0, 0, 0, 0, 0xFF, 0xFF, 0xFF, 0xFF, 0, 0, 0, 0]);
+        let cases: [(&[u8], u32, u8); 16] = [
+            (&[], 0, 23),
+            (&sound[..11], 0, 23),
+            (&sound[..22], 11, 23),
+            (&sound, 12, 23),
+            (&sound, 10, 24),
+            (&sound, 0, 24),
+            (&changed(0), 11, 24),
+            (&changed(7), 11, 24),
+            (&changed(8), 11, 25),
+            (&changed(22), 11, 25),
+            (&[&no_body[..11], &[1]].concat(), 0, 25),
+            (&no_body, 0, 26),
+            (&record(&[2; 40], 0), 40, 26),
+            (&record(&[5; 24], 0), 24, 26),
+            (&record(&[1, 9, 0, 0, 0, 0, 0, 0, 0, 1, b' '], 0), 11, 26),
+            (&record(&[1, 8, 0, 0, 0, 0, 0, 0, 0, 1, b'D'], 0), 11, 27),
+        ];
+        for (record, body_len, number) in cases {
+            assert_eq!(refused_again(record, body_len), number, "{body_len}: {record:02x?}");
+        }
+    }
+
     #[test]
     fn an_unknown_text_has_no_number() {
-        for reason in ["record at offset 9: the count of replaced bytes overflows", "record at offset 9 is too long", ""] {
+        let reread = "record for MsgSeqNum 9 at offset 9 is too long to read";
+        for reason in ["record at offset 9: the count of replaced bytes overflows", "record at offset 9 is too long", reread, ""] {
             assert!(number(&StoreError::Corrupted { reason: reason.to_string() }).is_err());
             assert!(number(&StoreError::StoreFailed { seq_num: 1, reason: reason.to_string() }).is_err());
         }

@@ -1,4 +1,4 @@
-//! The oracle over its pipes: the published CRC-32s, records, scans, frames, and requests that stop it.
+//! The oracle over its pipes: the published CRC-32s, records, scans, re-reads, frames, and requests that stop it.
 
 use oracle::operations;
 use std::io::Write;
@@ -12,6 +12,7 @@ const SEAL: u8 = 8;
 const BODY: u8 = 9;
 const SEEN: u8 = 10;
 const SCAN: u8 = 11;
+const REREAD: u8 = 12;
 
 fn run(bytes: &[u8]) -> Vec<u8> {
     [&(bytes.len() as u32).to_le_bytes(), bytes].concat()
@@ -412,4 +413,57 @@ fn scans_that_stop_it() {
     stops(&run(&scan(4, 0, 100, &[], &[])), "a request has 4 for a rule");
     // The request is short enough, its answer isn't.
     stops(&run(&scan(TAIL, 0, 100, &[[0; 3]; 10_920], &[])), "a frame of 262301 bytes is above 262144");
+}
+
+/// An entry of message number 1, offset and body length, and the message number that is asked for.
+fn reread(offset: u64, body: u64, number: u64, journal: &[u8]) -> Vec<u8> {
+    [&[REREAD], &words(&[1, offset, body, number])[..], &run(journal)].concat()
+}
+
+fn read_again(code: &[u8; 9], place: u64, frame: &[u8]) -> Vec<u8> {
+    [&[0; 9], &code[..], &words(&[place]), &run(frame)].concat()
+}
+
+#[test]
+fn a_message_is_read_again() {
+    // With no prefix, at any offset, and under a number that the entry hasn't.
+    let both = [b".", KIND_1, KIND_5].concat();
+    assert_eq!(ask(&reread(1, 15, 7, &both)), read_again(b"D\0\0\0\0\0\0\0\x01", 24, FRAME));
+    assert_eq!(ask(&reread(28, 31, 7, &both)), read_again(b"D\0\0\0\0\0\0\0\x01", 67, FRAME));
+    // A code of eight, and no frame.
+    let bare = ask(&seal(0, b"\x12\0\0\0\0\0\0\0\0\0\0\0\x01\x07\0\0\0\0\0\0\0\x08!ABCDEF~"))[13..].to_vec();
+    assert_eq!(ask(&reread(0, 18, 7, &bare)), read_again(b"!ABCDEF~\x08", 30, &[]));
+    assert_eq!(ask(&reread(12_288, 15, 7, &journal(12_288, KIND_1))), read_again(b"D\0\0\0\0\0\0\0\x01", 12_311, FRAME));
+}
+
+#[test]
+fn rereads_that_are_refused() {
+    let unknown_kind = ask(&seal(0, &changed(12, 2)))[13..].to_vec();
+    let cases: [(u8, u64, u64, u64, &[u8]); 14] = [
+        (23, 0, 15, 7, &KIND_1[..26]),
+        (23, 1, 15, 7, KIND_1),
+        (23, 0, 16, 7, KIND_1),
+        (23, 0, 1 << 20, 7, KIND_1),
+        (23, 1 << 32, 15, 7, KIND_1),
+        (23, u64::MAX - 26, 15, 7, KIND_1),
+        (23, u64::MAX, 15, 7, KIND_1),
+        (24, 0, 14, 7, KIND_1),
+        (24, 0, 15, 7, &changed(0, 14)),
+        (24, 0, 15, 7, &changed(4, 0xF1)),
+        (25, 0, 15, 7, &changed(13, 8)),
+        (26, 0, 15, 7, &unknown_kind),
+        (26, 0, 15, 1, &unknown_kind),
+        (27, 0, 15, 1, KIND_1),
+    ];
+    for (number, offset, body, asked, bytes) in cases {
+        let expected = [&[number], &[0; 29][..]].concat();
+        assert_eq!(ask(&reread(offset, body, asked, bytes)), expected, "{number}: {offset} {body} {asked} {bytes:02x?}");
+    }
+}
+
+#[test]
+fn rereads_that_the_original_is_not_asked() {
+    for body in [(1 << 20) + 1, u64::from(u32::MAX), (1 << 32) + 15, u64::MAX - 11, u64::MAX] {
+        not_asked(&reread(0, body, 7, KIND_1), 23, &[0; 21]);
+    }
 }

@@ -2,7 +2,8 @@
 //! answer to the original's. Prints how many were compared, by operation and by refusal, and of `body` and `seen` by what was found; a
 //! difference is printed whole and ends it.
 //!
-//! compare scans SEED COUNT COMMAND..: the same with scans alone, counted by their rule and their cut too.
+//! compare library SEED COUNT COMMAND..: the same with what the library answers, scans and re-reads, which the other requests have none of.
+//! Scans are counted by their rule and their cut too.
 
 use oracle::frames::{self, NOT_ASKED};
 use oracle::generate::{self, Make, Numbers};
@@ -21,7 +22,7 @@ fn main() -> ExitCode {
     }
 }
 
-const USAGE: &str = "usage: compare [scans] SEED COUNT COMMAND..";
+const USAGE: &str = "usage: compare [library] SEED COUNT COMMAND..";
 
 fn number(word: Option<String>) -> Result<u64, String> {
     word.and_then(|word| word.parse().ok()).ok_or_else(|| USAGE.to_string())
@@ -35,8 +36,8 @@ fn requests(make: Make, seed: u64, count: u64) -> impl Iterator<Item = Vec<u8>> 
 
 fn compare() -> Result<(), String> {
     let mut words = std::env::args().skip(1).peekable();
-    let make = match words.next_if(|word| word == "scans") {
-        Some(_) => generate::scans::request,
+    let make = match words.next_if(|word| word == "library") {
+        Some(_) => generate::library,
         None => generate::request,
     };
     let (seed, count) = (number(words.next())?, number(words.next())?);

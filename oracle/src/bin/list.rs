@@ -1,7 +1,7 @@
 //! list SEED COUNT REQUESTS ANSWERS: writes COUNT requests, made from SEED, to the file REQUESTS, and the original's answers to the file
 //! ANSWERS. A request that the original can't be asked is left out, and so is a long one where its operation is there already.
 //!
-//! list scans SEED COUNT REQUESTS ANSWERS: the same with scans alone, and every long one.
+//! list library SEED COUNT REQUESTS ANSWERS: the same with what the library answers, scans and re-reads, and every long one.
 
 use oracle::frames::{self, NOT_ASKED};
 use oracle::generate::{self, Numbers};
@@ -24,11 +24,11 @@ fn main() -> ExitCode {
 
 fn list() -> Result<(), String> {
     let mut words = std::env::args().skip(1).peekable();
-    let scans = words.next_if(|word| word == "scans").is_some();
-    let make = if scans { generate::scans::request } else { generate::request };
+    let library = words.next_if(|word| word == "library").is_some();
+    let make = if library { generate::library } else { generate::request };
     let words: Vec<String> = words.collect();
     let [seed, count, requests, answers] = words.as_slice() else {
-        return Err("usage: list [scans] SEED COUNT REQUESTS ANSWERS".to_string());
+        return Err("usage: list [library] SEED COUNT REQUESTS ANSWERS".to_string());
     };
     let number = |word: &str| word.parse::<u64>().map_err(|_| format!("{word} is no number"));
     let (mut numbers, count) = (Numbers::new(number(seed)?), number(count)?);
@@ -40,7 +40,7 @@ fn list() -> Result<(), String> {
         turn += 1;
         let answer = operations::answer(&request)?;
         let met = long.entry(operations::name(&request)).or_default();
-        if answer.first() == Some(&NOT_ASKED) || !scans && request.len() > LONG.1 && *met == LONG.0 {
+        if answer.first() == Some(&NOT_ASKED) || !library && request.len() > LONG.1 && *met == LONG.0 {
             continue;
         }
         *met += u64::from(request.len() > LONG.1);

@@ -59,7 +59,7 @@ fn generations(numbers: &mut Numbers, slot: u64, count: u64) -> Vec<u64> {
 }
 
 /// A frame: mostly short. Some hold a sound record, which is none of the journal's.
-fn frame(numbers: &mut Numbers) -> Vec<u8> {
+pub(super) fn frame(numbers: &mut Numbers) -> Vec<u8> {
     let length = match numbers.below(400) {
         0 => numbers.pick(&[255, 256, 4096, 65_520, 65_536]) + numbers.below(20),
         1..=200 => numbers.below(40),
@@ -73,7 +73,7 @@ fn frame(numbers: &mut Numbers) -> Vec<u8> {
 }
 
 /// A sealed record of either kind.
-fn record(numbers: &mut Numbers, number: u64, generation: u64, frame: &[u8]) -> Vec<u8> {
+pub(super) fn record(numbers: &mut Numbers, number: u64, generation: u64, frame: &[u8]) -> Vec<u8> {
     let code = String::from_utf8(good_code(numbers)).expect("a good code is text");
     let code = MsgType::new(&code).expect("a good code is taken");
     let sender = numbers.number();

@@ -6,7 +6,6 @@ use borrow.Author.Needs.{needs}
 use Rattle.host.proofs.bulvreden_reread.Statement.{statement}
 use Rattle.host.proofs.bulvreden_reread.Tie as tie
 
-
 reread-requires : tie.Need-reread-requires
 reread-requires c κs = search needs
 

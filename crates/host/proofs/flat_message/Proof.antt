@@ -6,7 +6,6 @@ use borrow.Author.Needs.{needs}
 use Rattle.host.proofs.flat_message.Statement.{statement}
 use Rattle.host.proofs.flat_message.Tie as tie
 
-
 cast-t4 : tie.Need-cast-t4
 cast-t4 c = search needs
 

@@ -1,0 +1,10 @@
+pub mod Equations
+pub mod OfCrc32
+pub mod OfFields
+pub mod OfHost
+pub mod OfIndex
+pub mod OfJournal
+pub mod OfPrefix
+pub mod OfRecord
+pub mod Outright
+pub mod Silent

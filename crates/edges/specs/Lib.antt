@@ -5,3 +5,4 @@ pub mod Records
 pub mod Journals
 pub mod Answers
 pub mod Refuser
+pub mod Hosts

@@ -86,7 +86,7 @@ put-le n x s p h =
     ap (λ (m : ℕ). part m (put (leBytes n x) s p) p) (sym (leBytes-length n x)) ∙ put-part (leBytes n x) s p h in
     sym (le-part n (put (leBytes n x) s p) p) ∙ ap (λ (l : List ℕ). le n l 0) there ∙ le-bytes n x
 
-sets-append : (a b l : List ℕ) (i : ℕ) → sets l i (a ++ b) ≡ sets (sets l i a) (i + length a) b
+pub sets-append : (a b l : List ℕ) (i : ℕ) → sets l i (a ++ b) ≡ sets (sets l i a) (i + length a) b
 sets-append [] b l i = rw add-zero
 sets-append (x ∷ a) b l i = sets-append a b (set l i x) (suc i) ∙ ap (λ (k : ℕ). sets (sets l i (x ∷ a)) k b) (suc-add i (length a) ∙ sym (add-suc i (length a)))
 

@@ -1,0 +1,4 @@
+pub mod Text
+pub mod Request
+pub mod Report
+pub mod Steps

@@ -2,7 +2,7 @@
 //! private. It calls the original and changes nothing in it.
 
 use super::{decode_body, newest_slot, scan_records, DamageRule, IndexEntry, MsgType, SlotImages, StoreError, TruncationCause};
-use super::{DATA_START, SLOT_LEN, SLOT_OFFSETS};
+use super::{Reader, Writer, DATA_START, SLOT_LEN, SLOT_OFFSETS};
 use std::collections::HashSet;
 
 /// What the original reads in a record's body.
@@ -88,4 +88,36 @@ pub(crate) fn walk(journal: &[u8], max_body: u64, rule: DamageRule, room: usize)
     // What the walk ends with is the scan's to say.
     let _ = scan_records(&mut records, DATA_START, journal.len() as u64, max_body, rule, slot.durable_end, take);
     Ok(Walk { taken, full })
+}
+
+/// What a reader takes.
+pub(crate) enum Field<'a> {
+    Number(u64),
+    Run(&'a [u8]),
+    Nothing,
+}
+
+/// A field at a cursor, and where the reader stands behind it: a number of so many bytes, or, where the width is 0, `count` bytes. None
+/// where no reader stands at the cursor.
+pub(crate) fn take(bytes: &[u8], cursor: u64, width: u8, count: u64) -> Option<(Field<'_>, u64)> {
+    let mut reader = Reader::new(bytes);
+    reader.take(usize::try_from(cursor).ok()?).ok()?;
+    let field = match width {
+        1 => reader.u8().map(|byte| Field::Number(u64::from(byte))),
+        2 => reader.u16().map(|number| Field::Number(u64::from(number))),
+        4 => reader.u32().map(|number| Field::Number(u64::from(number))),
+        8 => reader.u64().map(Field::Number),
+        _ => reader.take(usize::try_from(count).ok()?).map(Field::Run),
+    };
+    let next = bytes.len() - reader.rest().len();
+    Some((field.unwrap_or(Field::Nothing), next as u64))
+}
+
+/// Bytes put at a cursor: where the writer stands then. None where no writer stands at the cursor.
+pub(crate) fn put(buffer: &mut [u8], cursor: u64, what: &[u8]) -> Option<u64> {
+    let before = buffer.get(..usize::try_from(cursor).ok()?)?.to_vec();
+    let mut writer = Writer::new(buffer);
+    writer.put(&before);
+    writer.put(what);
+    Some(writer.written().len() as u64)
 }

@@ -4,12 +4,25 @@
 //! `format.rs` one child module is declared, `inner`, which asks what that file keeps private. What they lean on and the sources lack
 //! stands in `standins`. Nothing is guessed: a request or an answer of the original that isn't known is an error.
 
+pub mod check;
+pub mod checking;
+pub mod comparison;
+mod cursors;
+mod entries;
+pub mod edges;
+pub mod every;
 pub mod frames;
 pub mod generate;
+mod layout;
 pub mod operations;
+mod pieces;
+pub mod port;
 mod refusals;
 mod reread;
+pub mod restated;
+pub mod samples;
 mod scan;
+pub mod shrink;
 // The original is compiled whole, though not every part of it is asked.
 #[allow(dead_code)]
 mod standins;

@@ -5,7 +5,7 @@ use crate::file::format::inner::{self, Contents, First};
 use crate::file::format::{self, DamageRule, Header, Slot, SlotImages, TruncationCause, HEADER_LEN, RECORD_HEADER_LEN, SLOT_LEN};
 use crate::frames::{Answer, Fields, NOT_ASKED};
 use crate::message::MsgType;
-use crate::{refusals, reread, scan};
+use crate::{check, cursors, entries, refusals, reread, scan};
 use std::time::{Duration, SystemTime, UNIX_EPOCH};
 
 pub const CRC: u8 = 1;
@@ -20,9 +20,16 @@ pub const BODY: u8 = 9;
 pub const SEEN: u8 = 10;
 pub const SCAN: u8 = 11;
 pub const REREAD: u8 = 12;
+pub const CHECK: u8 = 13;
+pub const TAKE: u8 = 14;
+pub const PUT: u8 = 15;
+pub const INSERT: u8 = 16;
+pub const LOOKUP: u8 = 17;
 
-const NAMES: [&str; 13] =
-    ["none", "crc", "header", "slot", "newest", "slots", "prefix", "record", "seal", "body", "seen", "scan", "reread"];
+const NAMES: [&str; 18] = [
+    "none", "crc", "header", "slot", "newest", "slots", "prefix", "record", "seal", "body", "seen", "scan", "reread", "check", "take",
+    "put", "insert", "lookup",
+];
 
 /// The highest frame limit in the port's domain.
 pub(crate) const HIGHEST_FRAME_LIMIT: u64 = 67_108_864;
@@ -52,15 +59,23 @@ pub fn answer(request: &[u8]) -> Result<Vec<u8>, String> {
         SEEN => seen(fields),
         SCAN => scan::answer(fields),
         REREAD => reread::answer(fields),
+        CHECK => check::answer(fields),
+        TAKE => cursors::take(fields),
+        PUT => cursors::put(fields),
+        INSERT => entries::insert(fields),
+        LOOKUP => entries::lookup(fields),
         other => Err(format!("no operation has the number {other}")),
     }
 }
 
-/// What an answer says beside its refusal, in words for the counts. `body` and `seen` say it with the result's first byte.
+/// What an answer says beside its refusal, in words for the counts. Some operations say it with the result's first byte.
 pub fn found(request: &[u8], answer: &[u8]) -> String {
     match (request.first(), answer.get(9)) {
-        (Some(&(BODY | SEEN)), Some(found)) => format!(" found {found}"),
+        (Some(&(BODY | SEEN | LOOKUP)), Some(found)) => format!(" found {found}"),
+        (Some(&TAKE), Some(taken)) => format!(" width {} taken {taken}", request.get(1).unwrap_or(&0)),
+        (Some(&PUT), _) => format!(" width {}", request.get(1).unwrap_or(&0)),
         (Some(&SCAN), _) => scan::found(request, answer),
+        (Some(&CHECK), _) => check::found(answer),
         _ => String::new(),
     }
 }
@@ -177,13 +192,13 @@ fn prefix(mut fields: Fields) -> Result<Vec<u8>, String> {
 }
 
 /// A type code as the original takes it, where it is good. Bytes past the length don't count.
-fn code(bytes: &[u8; 8], length: u8) -> Option<MsgType> {
+pub(crate) fn code(bytes: &[u8; 8], length: u8) -> Option<MsgType> {
     let bytes = bytes.get(..usize::from(length))?;
     std::str::from_utf8(bytes).ok().and_then(|code| MsgType::new(code).ok())
 }
 
 /// A frame limit, where it is in the port's domain.
-fn frame_limit(limit: u64) -> Option<u32> {
+pub(crate) fn frame_limit(limit: u64) -> Option<u32> {
     u32::try_from(limit).ok().filter(|limit| u64::from(*limit) <= HIGHEST_FRAME_LIMIT)
 }
 
@@ -258,7 +273,7 @@ fn body(mut fields: Fields) -> Result<Vec<u8>, String> {
 }
 
 /// An answer of `seen` where no sound record stands: the number of the test that fails.
-fn unsound(test: u8) -> Vec<u8> {
+pub(crate) fn unsound(test: u8) -> Vec<u8> {
     Answer::new(0, 0).u8(test).array(&[0; 16 + CONTENTS_LEN]).done()
 }
 
@@ -292,43 +307,4 @@ fn seen(mut fields: Fields) -> Result<Vec<u8>, String> {
         },
     };
     Ok(unsound(test))
-}
-
-/// Whether the port's answer is right where the original can't be asked: what the port adds, with zeros in the result's fields and no
-/// lent byte changed, but for the entries that a scan filed before its index was full.
-pub fn added(request: &[u8], answer: &[u8]) -> Result<bool, String> {
-    let mut fields = Fields::new(request);
-    match fields.u8()? {
-        PREFIX => {
-            let (seconds, nanoseconds) = (fields.u64()?, fields.u32()?);
-            fields.array::<120>()?;
-            let number = match (nanoseconds, seconds) {
-                (1_000_000_000.., _) => 5,
-                (_, 0x8000_0000_0000_0000..) => 6,
-                _ => 21,
-            };
-            Ok(answer == Answer::new(number, 0).u64(0).run(fields.run()?).done())
-        }
-        RECORD => {
-            fields.array::<17>()?;
-            let code = code(&fields.array()?, fields.u8()?);
-            let limit = frame_limit(fields.u64()?);
-            let frame = fields.run()?;
-            let number = match (limit, code) {
-                (None, _) => 17,
-                (Some(limit), _) if frame.len() as u64 > u64::from(limit) => 19,
-                (_, None) => 20,
-                _ => 21,
-            };
-            Ok(answer == Answer::new(number, 0).u64(0).run(fields.run()?).done())
-        }
-        SEAL => {
-            fields.u64()?;
-            Ok(answer == Answer::new(22, 0).run(fields.run()?).done())
-        }
-        SEEN => Ok(answer == unsound(1)),
-        SCAN => scan::added(fields, answer),
-        REREAD => reread::added(fields, answer),
-        other => Err(format!("the original can be asked each request of operation {other}")),
-    }
 }

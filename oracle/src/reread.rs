@@ -66,10 +66,10 @@ pub(crate) fn answer(fields: Fields) -> Result<Vec<u8>, String> {
     Ok(with_code(Answer::new(0, 0), &code).u64(place as u64).run(&frame).done())
 }
 
-/// Whether the port's answer is right where the original isn't asked: no journal of a request holds such a record whole.
-pub(crate) fn added(fields: Fields, answer: &[u8]) -> Result<bool, String> {
+/// What the port must answer where the original isn't asked: no journal of a request holds such a record whole.
+pub(crate) fn restated(fields: Fields) -> Result<Vec<u8>, String> {
     match Request::new(fields)?.entry {
-        None => Ok(answer == refused(23)),
+        None => Ok(refused(23)),
         Some(_) => Err("the original can be asked this re-read".to_string()),
     }
 }

@@ -1,6 +1,7 @@
 //! The operation `scan`: what the original's scan answers, and how the records that it takes leave the lent index.
 
 use crate::file::format::{self, inner, DamageRule, IndexEntry, Scan, TruncationCause};
+use crate::entries::{self, with_index, Entry};
 use crate::frames::{Answer, Fields, NOT_ASKED};
 use crate::operations::with_header;
 use crate::refusals;
@@ -12,15 +13,12 @@ pub(crate) const HIGHEST_BODY_LIMIT: u64 = 67_108_898;
 const RESULT_LEN: usize = 208;
 const CUT_AT: usize = 158;
 
-/// An entry of the index: message number, offset and body length.
-type Entry = [u64; 3];
-
-struct Request<'a> {
-    rule: DamageRule,
-    limit: u64,
+pub(crate) struct Request<'a> {
+    pub(crate) rule: DamageRule,
+    pub(crate) limit: u64,
     /// The lent index.
-    lent: Vec<Entry>,
-    journal: &'a [u8],
+    pub(crate) lent: Vec<Entry>,
+    pub(crate) journal: &'a [u8],
 }
 
 impl<'a> Request<'a> {
@@ -32,17 +30,13 @@ impl<'a> Request<'a> {
             3 => DamageRule::Salvage,
             other => return Err(format!("a request has {other} for a rule")),
         };
-        let mut lent = Vec::new();
-        for _ in 0..fields.u32()? {
-            lent.push([fields.u64()?, fields.u64()?, fields.u64()?]);
-        }
-        let journal = fields.run()?;
+        let (lent, journal) = (entries::index(&mut fields)?, fields.run()?);
         fields.end()?;
         Ok(Self { rule, limit, lent, journal })
     }
 }
 
-enum Outcome {
+pub(crate) enum Outcome {
     Opened(Scan),
     /// Number and place.
     Refused(u8, u64),
@@ -51,7 +45,7 @@ enum Outcome {
 }
 
 /// The outcome of a scan, and the index as it was left.
-fn outcome(asked: Request) -> Result<(Outcome, Vec<Entry>), String> {
+pub(crate) fn outcome(asked: Request) -> Result<(Outcome, Vec<Entry>), String> {
     let Request { rule, limit, lent: mut index, journal } = asked;
     if limit > HIGHEST_BODY_LIMIT {
         return Ok((Outcome::Added(17, 0), index));
@@ -115,11 +109,6 @@ fn with_scan(answer: Answer, scan: &Scan) -> Result<Answer, String> {
     Ok(answer.u8(u8::from(scan.reset_owed)).u8(u8::from(scan.slots_stale)))
 }
 
-fn with_index(answer: Answer, index: &[Entry]) -> Answer {
-    let answer = answer.u32(index.len() as u32);
-    index.as_flattened().iter().fold(answer, |answer, number| answer.u64(*number))
-}
-
 fn refused(number: u8, place: u64, index: &[Entry]) -> Vec<u8> {
     with_index(Answer::new(number, place).array(&[0; RESULT_LEN]), index).done()
 }
@@ -133,10 +122,10 @@ pub(crate) fn answer(fields: Fields) -> Result<Vec<u8>, String> {
     })
 }
 
-/// Whether the port's answer is right where the original can't be asked.
-pub(crate) fn added(fields: Fields, answer: &[u8]) -> Result<bool, String> {
+/// What the port must answer where the original can't be asked.
+pub(crate) fn restated(fields: Fields) -> Result<Vec<u8>, String> {
     match outcome(Request::new(fields)?)? {
-        (Outcome::Added(number, place), index) => Ok(answer == refused(number, place, &index)),
+        (Outcome::Added(number, place), index) => Ok(refused(number, place, &index)),
         _ => Err("the original can be asked this scan".to_string()),
     }
 }

@@ -1,6 +1,6 @@
 //! The oracle over its pipes: the published CRC-32s, records, scans, re-reads, frames, and requests that stop it.
 
-use oracle::operations;
+use oracle::restated::added;
 use std::io::Write;
 use std::process::{Command, Output, Stdio};
 
@@ -220,12 +220,12 @@ fn not_asked_at(place: u64, request: &[u8], number: u8, rest: &[u8]) {
     assert_eq!(ask(request), [255, 0, 0, 0, 0, 0, 0, 0, 0]);
     for tried in 0..=255 {
         let answer = [&[tried], &place.to_le_bytes()[..], rest].concat();
-        assert_eq!(operations::added(request, &answer), Ok(tried == number));
+        assert_eq!(added(request, &answer), Ok(tried == number));
     }
     let touched = [&[number], &place.to_le_bytes()[..], &rest[..rest.len() - 1], &[0xAA]].concat();
-    assert_eq!(operations::added(request, &touched), Ok(false));
+    assert_eq!(added(request, &touched), Ok(false));
     let elsewhere = [&[number], &(place + 1).to_le_bytes()[..], rest].concat();
-    assert_eq!(operations::added(request, &elsewhere), Ok(false));
+    assert_eq!(added(request, &elsewhere), Ok(false));
 }
 
 fn not_asked(request: &[u8], number: u8, rest: &[u8]) {

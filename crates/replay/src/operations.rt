@@ -1,6 +1,5 @@
 // One function an operation: takes the request apart, calls the port, and writes all that it left. The result is the answer's length,
 // or 0 for a request that isn't one.
-use crate::answers;
 use crate::records;
 use fields::Cursor;
 use prefix::FreshNext;
@@ -12,11 +11,11 @@ use prefix::Slot;
 use prefix::SlotRead;
 
 pub fn length_of(head: [u8; 4]) -> usize {
-    answers::u32_at(&head, 0) as usize
+    framed::u32_at(&head, 0) as usize
 }
 
 pub fn respond(request: &[u8], out: &mut [u8]) -> usize {
-    let op = answers::u8_at(request, 0);
+    let op = framed::u8_at(request, 0);
     match op {
         1 => crc(request, out),
         2 => header(request, out),
@@ -28,18 +27,20 @@ pub fn respond(request: &[u8], out: &mut [u8]) -> usize {
         8 => records::seal(request, out),
         9 => records::body(request, out),
         10 => records::seen(request, out),
+        11 | 12 | 16 | 17 => replay_index::respond(request, out),
+        13 | 14 | 15 => replay_read::respond(request, out),
         _ => 0,
     }
 }
 
 fn crc(request: &[u8], out: &mut [u8]) -> usize {
-    let first = answers::run(request, Cursor { at: 1 });
-    let more = answers::run(request, first.next);
-    if !answers::last(request, more) {
+    let first = framed::run(request, Cursor { at: 1 });
+    let more = framed::run(request, first.next);
+    if !framed::last(request, more) {
         return 0;
     }
     let sum = crc32::crc32(fields::run(request, first.start, first.len));
-    let c = answers::begin(out, 0, 0);
+    let c = framed::begin(out, 0, 0);
     let end = fields::put_u32(
         out,
         c,
@@ -49,13 +50,13 @@ fn crc(request: &[u8], out: &mut [u8]) -> usize {
 }
 
 fn header(request: &[u8], out: &mut [u8]) -> usize {
-    let bytes = answers::run(request, Cursor { at: 1 });
-    if !answers::last(request, bytes) {
+    let bytes = framed::run(request, Cursor { at: 1 });
+    if !framed::last(request, bytes) {
         return 0;
     }
     match prefix::decode_header(fields::run(request, bytes.start, bytes.len)) {
         HeaderRead::Sound(h) => {
-            let c = answers::begin(out, 0, 0);
+            let c = framed::begin(out, 0, 0);
             let c1 = fields::put_u64(out, c, h.seconds);
             let c2 = fields::put_u32(out, c1, h.nanoseconds);
             let c3 = fields::put_u64(out, c2, h.sender);
@@ -63,7 +64,7 @@ fn header(request: &[u8], out: &mut [u8]) -> usize {
             end.at
         }
         HeaderRead::Refused { number, place } => {
-            let c = answers::begin(out, number, place);
+            let c = framed::begin(out, number, place);
             let end = fields::put_run(out, c, &[0; 28]);
             end.at
         }
@@ -71,15 +72,15 @@ fn header(request: &[u8], out: &mut [u8]) -> usize {
 }
 
 fn slot(request: &[u8], out: &mut [u8]) -> usize {
-    let bytes = answers::run(request, Cursor { at: 1 });
-    if !answers::last(request, bytes) {
+    let bytes = framed::run(request, Cursor { at: 1 });
+    if !framed::last(request, bytes) {
         return 0;
     }
-    let c = answers::begin(out, 0, 0);
+    let c = framed::begin(out, 0, 0);
     match prefix::decode_slot(fields::run(request, bytes.start, bytes.len)) {
         SlotRead::Sound(s) => {
             let c1 = fields::put_u8(out, c, 1);
-            let end = answers::put_slot(out, c1, s);
+            let end = framed::put_slot(out, c1, s);
             end.at
         }
         SlotRead::Unsound => {
@@ -90,32 +91,32 @@ fn slot(request: &[u8], out: &mut [u8]) -> usize {
 }
 
 fn chosen(out: &mut [u8], choice: Newest, s: Slot, image: &[u8]) -> usize {
-    let c = answers::begin(
+    let c = framed::begin(
         out,
         prefix::newest_number(choice),
         prefix::newest_place(choice),
     );
     let c1 = fields::put_u8(out, c, prefix::newest_position(choice));
-    let c2 = answers::put_slot(out, c1, s);
-    let end = answers::put_run(out, c2, image);
+    let c2 = framed::put_slot(out, c1, s);
+    let end = framed::put_run(out, c2, image);
     end.at
 }
 
 fn not_chosen(out: &mut [u8], choice: Newest, image: &[u8]) -> usize {
-    let c = answers::begin(
+    let c = framed::begin(
         out,
         prefix::newest_number(choice),
         prefix::newest_place(choice),
     );
     let c1 = fields::put_run(out, c, &[0; 42]);
-    let end = answers::put_run(out, c1, image);
+    let end = framed::put_run(out, c1, image);
     end.at
 }
 
 fn newest(request: &[u8], out: &mut [u8]) -> usize {
-    let a = answers::run(request, Cursor { at: 1 });
-    let b = answers::run(request, a.next);
-    if !answers::last(request, b) {
+    let a = framed::run(request, Cursor { at: 1 });
+    let b = framed::run(request, a.next);
+    if !framed::last(request, b) {
         return 0;
     }
     let zero = fields::run(request, a.start, a.len);
@@ -141,22 +142,22 @@ fn slots(request: &[u8], out: &mut [u8]) -> usize {
         return 0;
     }
     let slot = Slot {
-        generation: answers::u64_at(request, 1),
-        sender: answers::u64_at(request, 9),
-        target: answers::u64_at(request, 17),
-        end: answers::u64_at(request, 25),
-        watermark: answers::u64_at(request, 33),
-        reset: answers::u8_at(request, 41) == 1,
+        generation: framed::u64_at(request, 1),
+        sender: framed::u64_at(request, 9),
+        target: framed::u64_at(request, 17),
+        end: framed::u64_at(request, 25),
+        watermark: framed::u64_at(request, 33),
+        reset: framed::u8_at(request, 41) == 1,
     };
     let images = prefix::fresh_slots(slot);
     match prefix::fresh_next(slot.generation) {
         FreshNext::Next(next) => {
-            let c = answers::begin(out, 0, 0);
+            let c = framed::begin(out, 0, 0);
             let c1 = fields::put_u64(out, c, next);
             put_images(out, c1, images)
         }
         FreshNext::Exhausted { number, place } => {
-            let c = answers::begin(out, number, place);
+            let c = framed::begin(out, number, place);
             let c1 = fields::put_u64(out, c, 0);
             put_images(out, c1, images)
         }
@@ -176,20 +177,17 @@ fn write_prefix(out: &mut [u8], n: usize, h: Header, images: [[u8; 52]; 2]) -> P
 }
 
 fn prefix(request: &[u8], out: &mut [u8]) -> usize {
-    let lent = answers::run(request, Cursor { at: 133 });
-    if !answers::last(request, lent) {
+    let lent = framed::run(request, Cursor { at: 133 });
+    if !framed::last(request, lent) {
         return 0;
     }
     let h = Header {
-        seconds: answers::u64_at(request, 1),
-        nanoseconds: answers::u32_at(request, 9),
-        sender: answers::u64_at(request, 13),
-        target: answers::u64_at(request, 21),
+        seconds: framed::u64_at(request, 1),
+        nanoseconds: framed::u32_at(request, 9),
+        sender: framed::u64_at(request, 13),
+        target: framed::u64_at(request, 21),
     };
-    let images = [
-        answers::image_at(request, 29),
-        answers::image_at(request, 81),
-    ];
+    let images = [framed::image_at(request, 29), framed::image_at(request, 81)];
     let end = fields::put_run(
         out,
         Cursor { at: 21 },
@@ -197,12 +195,12 @@ fn prefix(request: &[u8], out: &mut [u8]) -> usize {
     );
     match write_prefix(out, lent.len, h, images) {
         PrefixWritten::Written(length) => {
-            let c = answers::begin(out, 0, 0);
+            let c = framed::begin(out, 0, 0);
             let c1 = fields::put_u64(out, c, length as u64);
             fields::put_u32(out, c1, (lent.len % 4294967296) as u32);
         }
         PrefixWritten::NotWritten { number, place } => {
-            let c = answers::begin(out, number, place);
+            let c = framed::begin(out, number, place);
             let c1 = fields::put_u64(out, c, 0);
             fields::put_u32(out, c1, (lent.len % 4294967296) as u32);
         }

@@ -1,5 +1,4 @@
 // The operations on records.
-use crate::answers;
 use fields::Cursor;
 use record::Body;
 use record::Kind;
@@ -11,9 +10,9 @@ use record::Seen;
 
 // The kind that a request names.
 fn kind_at(request: &[u8]) -> Kind {
-    if answers::u8_at(request, 1) == 5 {
+    if framed::u8_at(request, 1) == 5 {
         Kind::Counter {
-            sender: answers::u64_at(request, 2),
+            sender: framed::u64_at(request, 2),
         }
     } else {
         Kind::Plain
@@ -29,12 +28,12 @@ fn write(out: &mut [u8], n: usize, request: &[u8], frame: &[u8]) -> RecordWritte
         return RecordWritten::Written(0);
     }
     let end = 21 + n;
-    let code = answers::code_at(request, 18, 26);
-    let limit = answers::u64_at(request, 27);
+    let code = framed::code_at(request, 18, 26);
+    let limit = framed::u64_at(request, 27);
     record::encode_frame_record(
         &mut out[21..end],
         kind_at(request),
-        answers::u64_at(request, 10),
+        framed::u64_at(request, 10),
         code,
         frame,
         limit,
@@ -42,15 +41,15 @@ fn write(out: &mut [u8], n: usize, request: &[u8], frame: &[u8]) -> RecordWritte
 }
 
 fn head(out: &mut [u8], number: u8, place: u64, length: u64, lent: usize) {
-    let c = answers::begin(out, number, place);
+    let c = framed::begin(out, number, place);
     let c1 = fields::put_u64(out, c, length);
     fields::put_u32(out, c1, (lent % 4294967296) as u32);
 }
 
 pub fn record(request: &[u8], out: &mut [u8]) -> usize {
-    let frame = answers::run(request, Cursor { at: 35 });
-    let lent = answers::run(request, frame.next);
-    if !answers::last(request, lent) {
+    let frame = framed::run(request, Cursor { at: 35 });
+    let lent = framed::run(request, frame.next);
+    if !framed::last(request, lent) {
         return 0;
     }
     let end = fields::put_run(
@@ -83,8 +82,8 @@ fn seal_in(out: &mut [u8], n: usize, generation: u64) -> RecordSealed {
 }
 
 pub fn seal(request: &[u8], out: &mut [u8]) -> usize {
-    let lent = answers::run(request, Cursor { at: 9 });
-    if !answers::last(request, lent) {
+    let lent = framed::run(request, Cursor { at: 9 });
+    if !framed::last(request, lent) {
         return 0;
     }
     let end = fields::put_run(
@@ -92,13 +91,13 @@ pub fn seal(request: &[u8], out: &mut [u8]) -> usize {
         Cursor { at: 13 },
         fields::run(request, lent.start, lent.len),
     );
-    match seal_in(out, lent.len, answers::u64_at(request, 1)) {
+    match seal_in(out, lent.len, framed::u64_at(request, 1)) {
         RecordSealed::Sealed => {
-            let c = answers::begin(out, 0, 0);
+            let c = framed::begin(out, 0, 0);
             fields::put_u32(out, c, (lent.len % 4294967296) as u32);
         }
         RecordSealed::NotSealed { number, place } => {
-            let c = answers::begin(out, number, place);
+            let c = framed::begin(out, number, place);
             fields::put_u32(out, c, (lent.len % 4294967296) as u32);
         }
     }
@@ -109,19 +108,19 @@ fn put_body(out: &mut [u8], c: Cursor, body: Body) -> Cursor {
     let reads = if body.reads { 1 } else { 0 };
     let c1 = fields::put_u8(out, c, reads);
     let c2 = fields::put_u8(out, c1, body.kind);
-    let c3 = answers::put_counters(out, c2, body.number, body.generation, body.sender);
+    let c3 = framed::put_counters(out, c2, body.number, body.generation, body.sender);
     let code = body.code;
-    let c4 = answers::put_code(out, c3, code);
+    let c4 = framed::put_code(out, c3, code);
     fields::put_u64(out, c4, body.frame as u64)
 }
 
 pub fn body(request: &[u8], out: &mut [u8]) -> usize {
-    let bytes = answers::run(request, Cursor { at: 1 });
-    if !answers::last(request, bytes) {
+    let bytes = framed::run(request, Cursor { at: 1 });
+    if !framed::last(request, bytes) {
         return 0;
     }
     let body = record::decode_body(fields::run(request, bytes.start, bytes.len));
-    let c = answers::begin(out, 0, 0);
+    let c = framed::begin(out, 0, 0);
     let end = put_body(out, c, body);
     end.at
 }
@@ -130,8 +129,8 @@ fn put_record(out: &mut [u8], c: Cursor, r: Record) -> Cursor {
     let c1 = fields::put_u64(out, c, r.place);
     let c2 = fields::put_u64(out, c1, r.body);
     let c3 = fields::put_u8(out, c2, r.kind);
-    let c4 = answers::put_counters(out, c3, r.number, r.generation, r.sender);
-    let c5 = answers::put_code(out, c4, record::code_of(r));
+    let c4 = framed::put_counters(out, c3, r.number, r.generation, r.sender);
+    let c5 = framed::put_code(out, c4, record::code_of(r));
     fields::put_u64(out, c5, r.frame)
 }
 
@@ -147,13 +146,13 @@ fn row_number(row: Row) -> u8 {
 }
 
 pub fn seen(request: &[u8], out: &mut [u8]) -> usize {
-    let bytes = answers::run(request, Cursor { at: 17 });
-    if !answers::last(request, bytes) {
+    let bytes = framed::run(request, Cursor { at: 17 });
+    if !framed::last(request, bytes) {
         return 0;
     }
-    let limit = answers::u64_at(request, 1);
-    let at = answers::u64_at(request, 9) as usize;
-    let c = answers::begin(out, 0, 0);
+    let limit = framed::u64_at(request, 1);
+    let at = framed::u64_at(request, 9) as usize;
+    let c = framed::begin(out, 0, 0);
     match record::seen_at(fields::run(request, bytes.start, bytes.len), at, limit) {
         Seen::Sound(r) => {
             let c1 = fields::put_u8(out, c, 0);

@@ -1,19 +1,23 @@
 //! compare SEED COUNT COMMAND..: sends COUNT requests, made from SEED, to COMMAND, which answers the oracle's protocol, and holds each
-//! answer to the original's. Prints how many were compared, by operation and by refusal, and of `body` and `seen` by what was found; a
-//! difference is printed whole and ends it.
+//! answer to the original's, or to the restated rule where the original can't be asked. Prints how many were compared, by operation, by
+//! refusal and by what was found. A difference ends it: the smallest request found that differs is printed with both answers.
 //!
-//! compare library SEED COUNT COMMAND..: the same with what the library answers, scans and re-reads, which the other requests have none of.
-//! Scans are counted by their rule and their cut too.
+//! compare library SEED COUNT COMMAND..: the same with what the library answers, scans and re-reads.
+//!
+//! compare every COMMAND..: every truncation and every change of one byte of a small journal and its parts.
+//! compare every library COMMAND..: the scans and re-reads of them.
+//!
+//! compare check SEED COUNT COMMAND..: COMMAND is the check program. It is started for each of COUNT inputs, made from SEED, gets it in
+//! pieces on its standard input, and must print the text.
 
-use oracle::frames::{self, NOT_ASKED};
+use oracle::checking::compare_checks;
+use oracle::comparison::{compare, Counts};
+use oracle::every;
 use oracle::generate::{self, Make, Numbers};
-use oracle::operations;
-use std::collections::BTreeMap;
-use std::io::{BufReader, BufWriter, Write};
-use std::process::{Command, ExitCode, Stdio};
+use std::process::ExitCode;
 
 fn main() -> ExitCode {
-    match compare() {
+    match run() {
         Ok(()) => ExitCode::SUCCESS,
         Err(message) => {
             eprintln!("compare: {message}");
@@ -22,63 +26,50 @@ fn main() -> ExitCode {
     }
 }
 
-const USAGE: &str = "usage: compare [library] SEED COUNT COMMAND..";
+const USAGE: &str = "usage: compare [library|check] SEED COUNT COMMAND.. or compare every [library] COMMAND..";
 
-fn number(word: Option<String>) -> Result<u64, String> {
+fn number(word: Option<&String>) -> Result<u64, String> {
     word.and_then(|word| word.parse().ok()).ok_or_else(|| USAGE.to_string())
 }
 
 /// The requests that a seed makes, one after the other.
-fn requests(make: Make, seed: u64, count: u64) -> impl Iterator<Item = Vec<u8>> {
+fn made(make: Make, seed: u64, count: u64) -> impl Iterator<Item = Vec<u8>> {
     let mut numbers = Numbers::new(seed);
     (0..count as usize).map(move |turn| make(&mut numbers, turn))
 }
 
-fn compare() -> Result<(), String> {
-    let mut words = std::env::args().skip(1).peekable();
-    let make = match words.next_if(|word| word == "library") {
-        Some(_) => generate::library,
-        None => generate::request,
-    };
-    let (seed, count) = (number(words.next())?, number(words.next())?);
-    let command = words.next().ok_or(USAGE)?;
-
-    let mut port = Command::new(&command)
-        .args(words)
-        .stdin(Stdio::piped())
-        .stdout(Stdio::piped())
-        .spawn()
-        .map_err(|err| format!("cannot start {command}: {err}"))?;
-    let mut input = BufWriter::new(port.stdin.take().ok_or("the port has no input")?);
-    let mut output = BufReader::new(port.stdout.take().ok_or("the port has no output")?);
-    let sender = std::thread::spawn(move || {
-        // A port that ends early is found by its answers.
-        let _ = requests(make, seed, count).try_for_each(|request| frames::write(&mut input, &request));
-        let _ = input.flush();
-    });
-
-    let mut counts: BTreeMap<(&str, u8, String), u64> = BTreeMap::new();
-    // The seed makes the same requests again: so none is kept.
-    for request in requests(make, seed, count) {
-        let original = operations::answer(&request)?;
-        let answer = frames::read(&mut output)?.unwrap_or_default();
-        let asked = original.first() != Some(&NOT_ASKED);
-        let same = if asked { answer == original } else { operations::added(&request, &answer)? };
-        if !same {
-            return Err(format!("a difference\nrequest  {}\noriginal {}\nport     {}", hex(&request), hex(&original), hex(&answer)));
-        }
-        let refusal = answer.first().copied().unwrap_or(0);
-        let found = operations::found(&request, &answer);
-        *counts.entry((operations::name(&request), refusal, found)).or_default() += 1;
-    }
-    sender.join().map_err(|_| "the sender failed")?;
-    for ((name, refusal, found), count) in counts {
-        println!("{name} {refusal}{found}: {count}");
-    }
-    println!("{count} requests compared, no difference");
-    Ok(())
+/// Compares COUNT requests that SEED makes.
+fn seeded(make: Make, words: &[String]) -> Result<Counts, String> {
+    let (seed, count) = (number(words.first())?, number(words.get(1))?);
+    compare(move || made(make, seed, count), words.get(2..).unwrap_or_default())
 }
 
-fn hex(bytes: &[u8]) -> String {
-    bytes.iter().map(|byte| format!("{byte:02x}")).collect()
+/// Compares what the check program prints.
+fn checks(words: &[String]) -> Result<Counts, String> {
+    let (seed, count) = (number(words.first())?, number(words.get(1))?);
+    compare_checks(seed, count as usize, words.get(2..).unwrap_or_default())
+}
+
+/// Whether the first word is this one, and then the words behind it.
+fn behind<'a>(words: &'a [String], word: &str) -> Option<&'a [String]> {
+    words.split_first().and_then(|(first, rest)| (first == word).then_some(rest))
+}
+
+fn run() -> Result<(), String> {
+    let words: Vec<String> = std::env::args().skip(1).collect();
+    let rest = words.get(1..).unwrap_or_default();
+    let counts = match words.first().map(String::as_str) {
+        Some("library") => seeded(generate::library, rest)?,
+        Some("check") => checks(rest)?,
+        Some("every") => match behind(rest, "library") {
+            Some(command) => compare(every::library, command)?,
+            None => compare(every::requests, rest)?,
+        },
+        _ => seeded(generate::request, &words)?,
+    };
+    for ((name, refusal, found), count) in &counts {
+        println!("{name} {refusal}{found}: {count}");
+    }
+    println!("{} requests compared, no difference", counts.values().sum::<u64>());
+    Ok(())
 }

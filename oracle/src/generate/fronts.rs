@@ -1,7 +1,9 @@
 //! The fronts of the scans' journals: header, slots and filler, and what can be wrong with each.
 
-use super::{flip, reseal, Numbers};
+use super::records::flip;
+use super::Numbers;
 use crate::file::format::{encode_header, encode_slot, Header, Slot, DATA_START, SLOT_LEN, SLOT_OFFSETS};
+use crate::pieces::reseal;
 use std::time::UNIX_EPOCH;
 
 /// A sound header with any reserved field, its CRC-32 right.

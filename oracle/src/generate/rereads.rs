@@ -1,9 +1,11 @@
 //! Requests for re-reads: short journals, some with a prefix, of which one record is pointed at, and what can be wrong with that record, with
 //! the entry that points at it and with the message number.
 
-use super::{behind, flip, fronts, run, scans, sealed, set_length, spoil_body, Numbers};
+use super::records::{behind, flip, sealed, set_length, spoil_body};
+use super::{fronts, records, scans, Numbers};
 use crate::file::format::{record_body_len, DATA_START, RECORD_HEADER_LEN};
 use crate::operations::REREAD;
+use crate::pieces::run;
 use crate::reread::LONGEST_BODY;
 
 /// What stands before the record: nothing, few bytes, a prefix, and perhaps other records.
@@ -30,7 +32,7 @@ fn frame(numbers: &mut Numbers) -> Vec<u8> {
             numbers.bytes(length)
         }
         1..=30 => Vec::new(),
-        31..=60 => super::frame(numbers),
+        31..=60 => records::frame(numbers),
         _ => scans::frame(numbers),
     }
 }

@@ -1,10 +1,12 @@
 //! Requests for scans: journals built by the rules, and what can be wrong with each part of them, under limits, windows, durable ends and
 //! rooms at the edges that the parts set.
 
-use super::{flip, fronts, good_code, run, set_length, spoil_body, Numbers};
+use super::records::{flip, good_code, set_length, spoil_body};
+use super::{fronts, Numbers};
 use crate::file::format::{encode_frame_record_into, seal_frame_record, DATA_START, RECORD_HEADER_LEN};
 use crate::message::MsgType;
 use crate::operations::SCAN;
+use crate::pieces::run;
 use crate::scan::HIGHEST_BODY_LIMIT;
 use std::collections::HashSet;
 
@@ -26,7 +28,7 @@ fn generation(numbers: &mut Numbers) -> u64 {
 /// A way to number messages.
 fn message_numbers(numbers: &mut Numbers, count: u64) -> Vec<u64> {
     let way = numbers.below(7);
-    let (first, step) = (numbers.pick(&[0, 1, 1, 255, u64::MAX, u64::MAX - 3]), numbers.pick(&[1, 1, 2, 256]));
+    let (first, step) = (numbers.pick(&[0, 1, 1, 255, (1 << 63) - 1, 1 << 63, u64::MAX, u64::MAX - 3]), numbers.pick(&[1, 1, 2, 256]));
     let mut made = Vec::new();
     for turn in 0..count {
         let number = match way {
@@ -226,10 +228,23 @@ fn index(numbers: &mut Numbers, room: u64, known: &[u64]) -> Vec<u8> {
     bytes
 }
 
-/// Perhaps further damage to a journal: a bit of its records, or its end lost, also inside the front.
+/// Zeros in a range of a journal's records: to the end, or some of them.
+fn zero(numbers: &mut Numbers, records: &mut [u8]) {
+    let start = numbers.below(records.len() as u64) as usize;
+    let rest = (records.len() - start) as u64;
+    let count = match numbers.below(3) {
+        0 => rest,
+        1 => 1 + numbers.below(rest),
+        _ => rest.min(numbers.pick(&[1, 4, 12])),
+    };
+    records[start..start + count as usize].fill(0);
+}
+
+/// Perhaps further damage to a journal: a bit of its records, zeros in them, or its end lost, also inside the front.
 fn damage(numbers: &mut Numbers, journal: &mut Vec<u8>) {
     let records = journal.len() as u64 - DATA_START;
     match numbers.below(40) {
+        10..=12 if records > 0 => zero(numbers, &mut journal[DATA_START as usize..]),
         0..=3 if records > 0 => flip(numbers, &mut journal[DATA_START as usize..]),
         4..=7 => journal.truncate((DATA_START + numbers.below(records + 1)) as usize),
         8 => journal.truncate(numbers.pick(&EARLY) as usize),
@@ -241,38 +256,67 @@ fn damage(numbers: &mut Numbers, journal: &mut Vec<u8>) {
     }
 }
 
-/// The next request: each rule in turn.
-pub fn request(numbers: &mut Numbers, turn: usize) -> Vec<u8> {
-    // Now and then many, so that a search has more than a few entries to halve.
-    let most = if numbers.one_in(16) { 120 } else { 13 };
-    let count = numbers.below(most);
-    let slot = generation(numbers);
-    // One record more than stand whole: the tail is made of it.
-    let known = message_numbers(numbers, count + 1);
-    let generations = generations(numbers, slot, count + 1);
+/// A journal, and what it is scanned with.
+pub(super) struct Made {
+    /// The records that Tail excuses.
+    pub(super) window_records: u64,
+    pub(super) limit: u64,
+    pub(super) journal: Vec<u8>,
+    /// The message numbers of its records, and of the one that the tail is made of.
+    pub(super) known: Vec<u64>,
+    /// How many of them differ, without the tail's.
+    pub(super) needed: u64,
+}
+
+/// The records of a journal, and one more: the tail is made of it.
+fn records(numbers: &mut Numbers, slot: u64, known: &[u64]) -> (Vec<Vec<u8>>, Vec<u8>) {
+    let generations = generations(numbers, slot, known.len() as u64);
     let made = known.iter().zip(generations).map(|(number, generation)| {
         let frame = frame(numbers);
         record(numbers, *number, generation, &frame)
     });
     let mut records: Vec<Vec<u8>> = made.collect();
-    let longest = records.iter().map(Vec::len).max().unwrap_or(0) - RECORD_HEADER_LEN;
     let more = records.pop().unwrap_or_default();
+    (records, more)
+}
+
+/// Where records end, one after the other, from 12,288 on.
+fn ends(records: &[Vec<u8>]) -> Vec<u64> {
+    let mut ends = vec![DATA_START];
+    for record in records {
+        ends.push(ends[ends.len() - 1] + record.len() as u64);
+    }
+    ends
+}
+
+/// The next journal.
+pub(super) fn made(numbers: &mut Numbers) -> Made {
+    // Now and then many, so that a search has more than a few entries to halve.
+    let most = if numbers.one_in(16) { 120 } else { 13 };
+    let count = numbers.below(most);
+    let slot = generation(numbers);
+    let known = message_numbers(numbers, count + 1);
+    let (records, more) = records(numbers, slot, &known);
+    let longest = records.iter().map(Vec::len).chain([more.len()]).max().unwrap_or(0) - RECORD_HEADER_LEN;
 
     let limit = body_limit(numbers, longest as u64);
     let window_records = window_records(numbers, limit);
     let window = window_records.checked_mul(limit.saturating_add(12));
     let tail = tail(numbers, more, limit, window);
-    let mut ends = vec![DATA_START];
-    for record in &records {
-        ends.push(ends[ends.len() - 1] + record.len() as u64);
-    }
+    let ends = ends(&records);
     let end = ends[ends.len() - 1] + tail.len() as u64;
     let durable_end = durable_end(numbers, &ends, end);
     let mut journal = [fronts::prefix(numbers, slot, durable_end), records.concat(), tail].concat();
     damage(numbers, &mut journal);
-
     let needed: HashSet<&u64> = known[..records.len()].iter().collect();
-    let room = room(numbers, needed.len() as u64);
+    let needed = needed.len() as u64;
+    Made { window_records, limit, journal, known, needed }
+}
+
+/// The next request: each rule in turn.
+pub fn request(numbers: &mut Numbers, turn: usize) -> Vec<u8> {
+    let Made { window_records, limit, journal, known, needed } = made(numbers);
+    let room = room(numbers, needed);
     let mut request = vec![SCAN, 1 + (turn % 3) as u8];
     request.extend_from_slice(&window_records.to_le_bytes());
     request.extend_from_slice(&limit.to_le_bytes());

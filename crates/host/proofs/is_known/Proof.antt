@@ -2,8 +2,6 @@
 -- Assumes nothing.
 use borrow.Author.Tests.{ne-eqb, eq-eqb}
 use Rattle.host.specs.Host.{known}
-use borrow.Author.Tests.{ne-eqb, eq-eqb}
-use Rattle.host.specs.Host.{known}
 use Rattle.host.proofs.is_known.Statement.{statement}
 use Rattle.host.proofs.is_known.Tie as tie
 

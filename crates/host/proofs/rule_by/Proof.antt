@@ -2,8 +2,6 @@
 -- Assumes nothing.
 use borrow.Author.Tests.{ne-eqb, eq-eqb}
 use Rattle.host.specs.Host.{ruleBy}
-use borrow.Author.Tests.{ne-eqb, eq-eqb}
-use Rattle.host.specs.Host.{ruleBy}
 use Rattle.host.proofs.rule_by.Statement.{statement}
 use Rattle.host.proofs.rule_by.Tie as tie
 

@@ -1,14 +1,9 @@
-use mathlib.Core.Path.{_≡_, _∙_}
-use Prim.Native.Nat.{_-_, _<_, _^_}
-use mathlib.Core.Logic.{⊎-elim}
+use mathlib.Core.Path.{_≡_}
+use Prim.Native.Nat.{_-_}
 use lib.ListN.{length}
-use native.Mathlib.Omega.{arith}
 use borrow.Author.Needs.{needs}
 use Rattle.replay.proofs.serve.Statement.{statement}
 use Rattle.replay.proofs.serve.Tie as tie
-use Rattle.replay.proofs.serve.Reads as reads
-use Rattle.replay.proofs.serve.Lts as lts
-use Rattle.replay.proofs.turn.Reads as turn-reads
 
 abbrev Inv-loop : tie.InvT-loop
 Inv-loop request₀ answer₀ left₀ request answer left = (length request ≡ length request₀) × (length answer ≡ length answer₀)

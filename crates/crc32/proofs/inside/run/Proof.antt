@@ -15,8 +15,6 @@ use Rattle.crc32.proofs.Register.{next-split}
 use Rattle.crc32.proofs.Entries.{entry}
 use Rattle.crc32.proofs.inside.run.Statement.{statement}
 use Rattle.crc32.proofs.inside.run.Tie as tie
-use Rattle.crc32.proofs.inside.run.Reads as reads
-use Rattle.crc32.proofs.inside.run.Lts as lts
 
 -- one turn: the byte at i goes into the register by way of the table's entry r
 turn : (s : List ℕ) (c i r : ℕ) → i < length s → getD s i 0 < 2 ^ 8 → r ≡ next 0 (bitAnd (bitXor c (getD s i 0)) 255)

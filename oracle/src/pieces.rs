@@ -79,6 +79,12 @@ pub(crate) fn kind_5(number: u64, generation: u64, sender: u64) -> Vec<u8> {
     record(&body_5(number, generation, sender, b"D", FRAME))
 }
 
+/// A journal of records with these message numbers, as short as can be.
+pub(crate) fn numbered(numbers: impl Iterator<Item = u64>) -> Vec<u8> {
+    let records: Vec<u8> = numbers.flat_map(|number| record(&body_1(number, b"D", b""))).collect();
+    journal(DATA_START, &[&records])
+}
+
 /// Bytes with one changed.
 pub(crate) fn changed(bytes: &[u8], at: usize, by: u8) -> Vec<u8> {
     let mut bytes = bytes.to_vec();

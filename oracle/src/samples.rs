@@ -2,7 +2,7 @@
 //! that has it, and what an open journal prints.
 
 use crate::file::format::{encode_slot, Slot};
-use crate::pieces::{self, body_1, changed, check_input, front, journal, kind_1, kind_5, record, record_header};
+use crate::pieces::{self, body_1, changed, check_input, front, journal, kind_1, kind_5, numbered, record, record_header};
 use crate::pieces::{with_header, with_slot_field, words, ANYWHERE, SALVAGE, START, TAIL};
 
 const DURABLE: u64 = START as u64;
@@ -84,6 +84,8 @@ fn refused_inputs(list: &mut List) {
     list.add("refused_28_kind_255", check_input(255, 0, LIMIT, &whole));
     list.add("refused_28_kind_digit_1", [&b"1"[..], &words(&[1, LIMIT]), &whole].concat());
     list.add("refused_29_length_65537", check_input(ANYWHERE, 0, LIMIT, &filled(65_537)));
+    // The longest front: one byte less is all that the program has to read.
+    list.add("refused_29_length_65537_tail", check_input(TAIL, 1, LIMIT, &filled(65_537)));
 }
 
 fn cuts(list: &mut List) {
@@ -111,12 +113,6 @@ fn filled(length: usize) -> Vec<u8> {
     journal(DURABLE, &[&record(&body_1(7, b"D", &vec![b'8'; length - START - 23]))])
 }
 
-/// A journal of records with these numbers, as short as can be.
-fn numbered(numbers: impl Iterator<Item = u64>) -> Vec<u8> {
-    let records: Vec<u8> = numbers.flat_map(|number| record(&body_1(number, b"D", b""))).collect();
-    journal(DURABLE, &[&records])
-}
-
 fn opens(list: &mut List) {
     let again = [kind_5(5, 3, 50), kind_1(3), kind_5(9, 5, 60), kind_5(3, 5, 70), kind_1(5), kind_1(4)].concat();
     for (name, rule) in RULES {
@@ -133,6 +129,7 @@ fn opens(list: &mut List) {
     list.tail("opens_one_sound_slot", &changed(&front(DURABLE), 8192, 1));
     list.add("opens_limit_67108898", check_input(TAIL, 1, 67_108_898, &front(DURABLE)));
     list.add("opens_length_65536", check_input(ANYWHERE, 0, 60_000, &filled(65_536)));
+    list.add("opens_length_65536_tail", check_input(TAIL, 1, 60_000, &filled(65_536)));
     list.tail("opens_1024_entries", &numbered((1..=1024).chain([1024, 1])));
     list.tail("refused_16_1025_entries", &numbered(1..=1025));
     list.add("refused_16_1025_entries_salvage", check_input(SALVAGE, 0, LIMIT, &numbered((0..1025).rev())));

@@ -1,7 +1,7 @@
 //! Edges of re-reads, checks, fields and entries.
 
-use super::pieces::{body_1, body_5, changed, check, check_input, front, journal, kind_1, kind_5, record, record_header, reread, run, words};
-use super::pieces::{ANYWHERE, FRAME, SALVAGE, START, TAIL};
+use super::pieces::{body_1, body_5, changed, check, check_input, front, journal, kind_1, kind_5, numbered, record, record_header, reread};
+use super::pieces::{run, words, ANYWHERE, FRAME, SALVAGE, START, TAIL};
 use super::List;
 use super::Says::{Found, Number, Prints};
 use crate::operations::{INSERT, LOOKUP, PUT, TAKE};
@@ -65,6 +65,9 @@ fn checks(list: &mut List) {
     add("a journal of 65,537 bytes: 29", "refused 29 at 0\n", &check_input(ANYWHERE, 0, 100, &long));
     add("29 before 17", "refused 29 at 0\n", &check_input(TAIL, 1, u64::MAX, &long));
     add("28 before 29", "refused 28 at 0\n", &check_input(0, 0, 100, &long));
+    let full = "open end=35863 records=1024 dead=23 sender=7 target=9 generation=3 active=1 stale=0 ";
+    add("1,024 numbers, one of them again", full, &check_input(TAIL, 1, 100, &numbered((1..=1024).chain([1]))));
+    add("1,025 numbers: 16", "refused 16 at 35840\n", &check_input(SALVAGE, 1, 100, &numbered(1..=1025)));
     let again = journal(START as u64, &[&kind_5(u64::MAX, 3, 9), &kind_1(1 << 63), &kind_5(u64::MAX, 4, 8)]);
     let entries = "open end=12401 records=2 dead=43 sender=8 target=9 generation=5 active=1 stale=0 reset=0 watermark=0 boundary=12288 \
                    cut=none\nentry seq=18446744073709551615 offset=12358 body=31\nentry seq=9223372036854775808 offset=12331 body=15\n";

@@ -217,16 +217,21 @@ fn limits(list: &mut List) {
     }
 }
 
+/// The message number of a record that fills a journal.
+const FILLING: u64 = 6;
+
 /// A record of so many bytes.
 fn filling(length: usize) -> Vec<u8> {
-    record(&body_1(6, b"D", &vec![b'8'; length - 23]))
+    record(&body_1(FILLING, b"D", &vec![b'8'; length - 23]))
 }
 
 fn places(list: &mut List) {
     // Records that start about a power of two, and the last one's end there.
     for power in [1 << 14, 1 << 15, 1 << 16] {
         for place in [power - 1, power, power + 1] {
-            let whole = journal(place as u64, &[&filling(place - START), &kind_5(7, 3, 9)]);
+            // At the power itself a number is met again, which replaces the entry's place.
+            let number = if place == power { FILLING } else { 7 };
+            let whole = journal(place as u64, &[&filling(place - START), &kind_5(number, 3, 9)]);
             list.add(&format!("a record at {place}, B there"), Opens(0), pieces::scan(TAIL, 1, 60_000, &LENT, &whole));
         }
     }

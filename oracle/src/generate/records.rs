@@ -124,7 +124,7 @@ pub(super) fn seal(numbers: &mut Numbers) -> Vec<u8> {
 }
 
 /// A good body with something changed that it is read by; some still read.
-pub(super) fn spoil_body(numbers: &mut Numbers, body: &mut Vec<u8>) {
+fn spoil_body(numbers: &mut Numbers, body: &mut Vec<u8>) {
     // Where the code's length stands, and the code behind it.
     let at = if body[0] == 5 { 25 } else { 9 };
     let end = at + 1 + usize::from(body[at]);
@@ -162,6 +162,14 @@ pub(super) fn set_length(numbers: &mut Numbers, record: &mut [u8], length: u64) 
     seal_frame_record(record, numbers.number());
 }
 
+/// A sealed record whose body is spoilt, sealed again.
+pub(super) fn spoil_record(numbers: &mut Numbers, record: &mut Vec<u8>) {
+    let mut body = record.split_off(RECORD_HEADER_LEN);
+    spoil_body(numbers, &mut body);
+    record.extend_from_slice(&body);
+    set_length(numbers, record, body.len() as u64);
+}
+
 /// Perhaps some damage to a sealed record.
 fn damage_record(numbers: &mut Numbers, record: &mut Vec<u8>, limit: u64) {
     match numbers.below(20) {
@@ -178,12 +186,7 @@ fn damage_record(numbers: &mut Numbers, record: &mut Vec<u8>, limit: u64) {
             let shorter = numbers.below(record.len() as u64 - 12);
             set_length(numbers, record, shorter);
         }
-        7..=9 => {
-            let mut body = record.split_off(RECORD_HEADER_LEN);
-            spoil_body(numbers, &mut body);
-            record.extend_from_slice(&body);
-            set_length(numbers, record, body.len() as u64);
-        }
+        7..=9 => spoil_record(numbers, record),
         10 => *record = vec![0; numbers.below(40) as usize],
         _ => {}
     }

@@ -1,7 +1,7 @@
 //! Requests for re-reads: short journals, some with a prefix, of which one record is pointed at, and what can be wrong with that record, with
 //! the entry that points at it and with the message number.
 
-use super::records::{behind, flip, sealed, set_length, spoil_body};
+use super::records::{behind, flip, sealed, set_length, spoil_record};
 use super::{fronts, records, scans, Numbers};
 use crate::file::format::{record_body_len, DATA_START, RECORD_HEADER_LEN};
 use crate::operations::REREAD;
@@ -41,12 +41,7 @@ fn frame(numbers: &mut Numbers) -> Vec<u8> {
 fn damage(numbers: &mut Numbers, record: &mut Vec<u8>) {
     let length = (record.len() - RECORD_HEADER_LEN) as u64;
     match numbers.below(20) {
-        0..=2 => {
-            let mut body = record.split_off(RECORD_HEADER_LEN);
-            spoil_body(numbers, &mut body);
-            record.extend_from_slice(&body);
-            set_length(numbers, record, body.len() as u64);
-        }
+        0..=2 => spoil_record(numbers, record),
         3 => {
             record.truncate(RECORD_HEADER_LEN);
             set_length(numbers, record, 0);

@@ -1,7 +1,7 @@
 //! Requests for scans: journals built by the rules, and what can be wrong with each part of them, under limits, windows, durable ends and
 //! rooms at the edges that the parts set.
 
-use super::records::{flip, good_code, set_length, spoil_body};
+use super::records::{flip, good_code, set_length, spoil_record};
 use super::{fronts, Numbers};
 use crate::file::format::{encode_frame_record_into, seal_frame_record, DATA_START, RECORD_HEADER_LEN};
 use crate::message::MsgType;
@@ -163,12 +163,7 @@ fn tail(numbers: &mut Numbers, mut record: Vec<u8>, limit: u64, window: Option<u
             record.truncate(numbers.pick(&[12, 13, good.len()]));
         }
         14..=16 => flip(numbers, &mut record[8..]),
-        17 | 18 => {
-            let mut body = record.split_off(RECORD_HEADER_LEN);
-            spoil_body(numbers, &mut body);
-            record.extend_from_slice(&body);
-            set_length(numbers, &mut record, body.len() as u64);
-        }
+        17 | 18 => spoil_record(numbers, &mut record),
         // Longer than its bytes.
         _ => {
             let longer = record.len() as u64 - 12 + numbers.pick(&[1, 2, 12]);

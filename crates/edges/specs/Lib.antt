@@ -6,3 +6,4 @@ pub mod Journals
 pub mod Answers
 pub mod Refuser
 pub mod Hosts
+pub mod Checks

@@ -1,10 +1,12 @@
 pub mod Equations
 pub mod OfCrc32
 pub mod OfFields
+pub mod OfHeld
 pub mod OfHost
 pub mod OfIndex
 pub mod OfJournal
 pub mod OfPrefix
 pub mod OfRecord
+pub mod OfReport
 pub mod Outright
 pub mod Silent

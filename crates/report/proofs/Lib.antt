@@ -4,3 +4,7 @@ pub mod Numbers
 pub mod RequestCases
 pub mod Listed
 pub mod Answered
+pub mod Spelt
+pub mod Fits
+pub mod FrontDecides
+pub mod OneLineEach

@@ -1,7 +1,7 @@
 -- What writing a number comes to: its last digit alone, or behind the digits of its tenth.
 -- Assumes nothing.
-use mathlib.Core.Path.{_≡_, sym, subst}
-use mathlib.Core.List.{List, [], _∷_, _++_}
+use mathlib.Core.Path.{sym, subst}
+use mathlib.Core.List.{List, [], _∷_}
 use Prim.Native.Nat.{ℕ, _+_, _/_, _%_, _^_, _≤_, _<_}
 use Rattle.report.specs.Steps.{Wrote}
 use Rattle.report.specs.Text.{decimal}

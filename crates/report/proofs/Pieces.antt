@@ -2,10 +2,10 @@
 -- Assumes nothing.
 use mathlib.Core.Path.{_≡_, refl, sym, ap, ap₂, subst, _∙_}
 use mathlib.Core.List.{List, [], _∷_, _++_}
-use Prim.Native.Nat.{ℕ, zero, suc, _+_, _-_, _≤_, _<_, min}
+use Prim.Native.Nat.{ℕ, suc, _+_, _-_, _≤_, _<_, min}
 use native.Mathlib.Nat.{zero-add}
 use native.Mathlib.Omega.{arith, min-cases}
-use lib.ListN.{length, take, drop, set, length-set, length-append, drop-of-length-le, take-append-drop}
+use lib.ListN.{length, take, drop, set, length-append, drop-of-length-le, take-append-drop}
 use lib.Seq.{sets, sets-eq, length-sets, set-out, take-all, length-take-le, take-take}
 use Rattle.fields.proofs.Put.{sets-append}
 use Rattle.report.specs.Steps.{Wrote}

@@ -1,13 +1,13 @@
 -- Which refusal a request has of itself, from facts on its kind and its length, and what stands where there is none.
 -- Assumes nothing.
-use mathlib.Core.Path.{_≡_, refl, sym, ap, _∙_}
+use mathlib.Core.Path.{_≡_, refl}
 use mathlib.Core.Bool.{Bool, true, false, _||_}
 use mathlib.Core.List.{List, [], _∷_}
-use Prim.Native.Nat.{ℕ, zero, suc, _+_, _-_, _≤_, _<_}
+use Prim.Native.Nat.{ℕ, _-_, _≤_, _<_}
 use native.Mathlib.Omega.{arith}
-use lib.Dec.{eqb, ltb, lit≤}
-use lib.ListN.{length, getD, drop, length-drop}
-use borrow.Author.Tests.{ltb-true, ltb-false, lt-ltb, le-ltb, eq-eqb, ne-eqb, eqb-false}
+use lib.Dec.{eqb, lit≤}
+use lib.ListN.{length, length-drop}
+use borrow.Author.Tests.{ltb-false, lt-ltb, le-ltb, eq-eqb, ne-eqb, eqb-false}
 use Rattle.fields.specs.Fields.{pick}
 use Rattle.fields.proofs.Picks.{pick-right, or-false, or-true}
 use Rattle.report.specs.Request.{kindIn, headOf, journalIn, unknownOrShort, requestFault}

@@ -1,9 +1,7 @@
 -- `report::report` meets its contract: the request's own refusal, or what the scan comes to.
 -- Assumes nothing.
-use mathlib.Core.Path.{_≡_, sym, _∙_}
 use native.Mathlib.Omega.{arith}
 use denote.Ref.{now}
-use Rattle.report.specs.Request.{requestFault}
 use Rattle.report.proofs.Pieces.{wrote-as, wrote-all}
 use Rattle.report.proofs.Answered.{refused-report, scanned-report}
 use borrow.Author.Needs.{needs}

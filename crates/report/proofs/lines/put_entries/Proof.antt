@@ -1,11 +1,9 @@
 -- `report::lines::put_entries` meets its contract. The loop's invariant: the first i entries have their lines.
 -- Assumes nothing.
-use mathlib.Core.Path.{_≡_, refl, sym, ap, _∙_}
+use mathlib.Core.Path.{_≡_, ap, _∙_}
 use Prim.Native.Nat.{ℕ, _-_, _≤_, min}
-use mathlib.Core.List.{List}
 use native.Mathlib.Omega.{arith}
-use lib.ListN.{take, length}
-use denote.Ref.{now}
+use lib.ListN.{take}
 use borrow.Author.Needs.{needs}
 use Rattle.index.specs.Insert.{none}
 use Rattle.report.specs.Steps.{Wrote}

@@ -2,7 +2,6 @@
 -- Assumes nothing.
 use mathlib.Core.Path.{_≡_, sym, ap, _∙_}
 use native.Mathlib.Omega.{arith}
-use lib.ListN.{length}
 use denote.Ref.{now}
 use Rattle.report.specs.Request.{kindIn, headOf}
 use Rattle.report.proofs.RequestCases.{fault-unknown, fault-short, fault-long, fault-none}

@@ -1,9 +1,7 @@
 -- `report::requests::journal_of` meets its contract: all behind the front.
 -- Assumes nothing.
-use mathlib.Core.Path.{_≡_, sym, ap, _∙_}
-use Prim.Native.Nat.{_≤_}
+use mathlib.Core.Path.{_≡_, ap, _∙_}
 use native.Mathlib.Omega.{arith}
-use lib.ListN.{length}
 use denote.Ref.{now}
 use Rattle.report.specs.Request.{kindIn, headOf, journalIn}
 use Rattle.fields.proofs.Parts.{rest-all}

@@ -1,12 +1,12 @@
 -- `report::words::put_run` meets its contract. The loop's invariant: the first i bytes are written.
 -- Assumes nothing.
-use mathlib.Core.Path.{_≡_, sym, ap, subst, _∙_}
+use mathlib.Core.Path.{sym, ap, subst, _∙_}
 use mathlib.Core.List.{List}
 use Prim.Native.Nat.{ℕ, _-_, _≤_}
 use native.Mathlib.Numerals.{add-one}
 use native.Mathlib.Omega.{arith}
-use lib.ListN.{length, take, getD}
-use lib.Seq.{take-suc, take-length, take-all, length-sets}
+use lib.ListN.{length, take}
+use lib.Seq.{take-suc, take-all}
 use denote.Ref.{now}
 use borrow.Author.Needs.{needs}
 use Rattle.report.specs.Steps.{Wrote}

@@ -8,3 +8,5 @@ pub mod Spelt
 pub mod Fits
 pub mod FrontDecides
 pub mod OneLineEach
+pub mod WrittenPrinted
+pub mod FullRefused

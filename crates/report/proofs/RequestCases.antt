@@ -47,6 +47,15 @@ sound-known s e =
     let p = or-false _ _ (pick-right _ _ _ _ 28-not-0 e .0) in
     (eqb-false _ _ (p .0), ltb-false _ _ (p .1))
 
+29-not-0 : _≡_ {A = ℕ} 29 0 → ⊥
+29-not-0 e = omega (arith, e)
+
+pub sound-size : (s : List ℕ) → requestFault s ≡ 0 → length (journalIn s) ≤ 65536
+unfolding requestFault
+sound-size s e =
+    let known = pick-right (unknownOrShort s) 28 (pick (ltb 65536 (length (journalIn s))) 29 0) 0 28-not-0 e in
+    ltb-false _ _ (pick-right (ltb 65536 (length (journalIn s))) 29 0 0 29-not-0 (known .1) .0)
+
 -- at least nine bytes stand before a journal, and seventeen under Tail
 least-head : (b c d : Bool) → (_≡_ {A = ℕ} (pick b 17 (pick (c || d) 9 0)) 0 → ⊥) → 9 ≤ pick b 17 (pick (c || d) 9 0)
 least-head true c d n = lit≤ tt

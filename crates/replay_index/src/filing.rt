@@ -32,7 +32,7 @@ fn insert_in(request: &[u8], room: usize, at: usize, out: &mut [u8]) -> usize
 }
 
 // Operation 16: the index, count, dead bytes and an entry; that entry is filed.
-pub fn insert(request: &[u8], out: &mut [u8]) -> usize {
+pub(crate) fn insert(request: &[u8], out: &mut [u8]) -> usize {
     let room = indexes::room_at(request, 1);
     if 1024 < room {
         return 0;
@@ -87,7 +87,7 @@ fn lookup_in(request: &[u8], room: usize, at: usize, out: &mut [u8]) -> usize
 }
 
 // Operation 17: the index, count and a message number; its entry is looked up.
-pub fn lookup(request: &[u8], out: &mut [u8]) -> usize {
+pub(crate) fn lookup(request: &[u8], out: &mut [u8]) -> usize {
     let room = indexes::room_at(request, 1);
     if 1024 < room {
         return 0;

@@ -4,7 +4,7 @@ use fields::Cursor;
 use index::Entry;
 
 // The entry at a place.
-pub fn entry_at(request: &[u8], at: usize) -> Entry
+pub(crate) fn entry_at(request: &[u8], at: usize) -> Entry
     requires { ⌜ at < 1048576 ⌝ }
 {
     Entry {
@@ -15,7 +15,7 @@ pub fn entry_at(request: &[u8], at: usize) -> Entry
 }
 
 // The room of the index at a place; above 1,024 it is 1,025.
-pub fn room_at(request: &[u8], at: usize) -> usize
+pub(crate) fn room_at(request: &[u8], at: usize) -> usize
     ensures { λ r. ⌜ r ≤ 1025 ⌝ }
 {
     let room = framed::u32_at(request, at) as usize;
@@ -23,7 +23,7 @@ pub fn room_at(request: &[u8], at: usize) -> usize
 }
 
 // The first `room` entries are those at the place, the others zeros.
-pub fn entries_at(request: &[u8], at: usize, room: usize) -> [Entry; 1024]
+pub(crate) fn entries_at(request: &[u8], at: usize, room: usize) -> [Entry; 1024]
     requires { ⌜ (at < 1024) × (room ≤ 1024) ⌝ }
 {
     let mut entries = [Entry {
@@ -40,12 +40,12 @@ pub fn entries_at(request: &[u8], at: usize, room: usize) -> [Entry; 1024]
 }
 
 // Message number, offset, body length.
-pub fn put_entry(out: &mut [u8], c: Cursor, entry: Entry) -> Cursor {
+pub(crate) fn put_entry(out: &mut [u8], c: Cursor, entry: Entry) -> Cursor {
     framed::put_counters(out, c, entry.number, entry.offset, entry.body)
 }
 
 // The room, and the first `room` entries.
-pub fn put_index(out: &mut [u8], c: Cursor, entries: [Entry; 1024], room: usize) -> Cursor
+pub(crate) fn put_index(out: &mut [u8], c: Cursor, entries: [Entry; 1024], room: usize) -> Cursor
     requires { ⌜ room ≤ 1024 ⌝ }
 {
     let mut next = fields::put_u32(out, c, room as u32);

@@ -97,7 +97,7 @@ fn scan_in(request: &[u8], room: usize, journal: &[u8], out: &mut [u8]) -> usize
 }
 
 // Operation 11: a rule, the index and a journal, which is scanned.
-pub fn scan(request: &[u8], out: &mut [u8]) -> usize {
+pub(crate) fn scan(request: &[u8], out: &mut [u8]) -> usize {
     let kind = framed::u8_at(request, 1);
     if kind == 0 {
         return 0;
@@ -143,7 +143,7 @@ fn reread_in(journal: &[u8], entry: Entry, number: u64, out: &mut [u8]) -> usize
 }
 
 // Operation 12: an entry, a message number and a journal, from which the message is read again.
-pub fn reread(request: &[u8], out: &mut [u8]) -> usize {
+pub(crate) fn reread(request: &[u8], out: &mut [u8]) -> usize {
     let journal = framed::run(request, Cursor { at: 33 });
     if !framed::last(request, journal) {
         return 0;

@@ -91,7 +91,7 @@ fn put_taken(out: &mut [u8], read: Taken) -> Cursor {
     fields::put_u64(out, c2, next.at as u64)
 }
 
-pub fn take(request: &[u8], out: &mut [u8]) -> usize {
+pub(crate) fn take(request: &[u8], out: &mut [u8]) -> usize {
     let width = framed::u8_at(request, 1);
     if !is_width(width) {
         return 0;
@@ -140,7 +140,7 @@ fn put_head(out: &mut [u8], next: Cursor, n: usize) {
     fields::put_u32(out, c1, (n % 4294967296) as u32);
 }
 
-pub fn put(request: &[u8], out: &mut [u8]) -> usize {
+pub(crate) fn put(request: &[u8], out: &mut [u8]) -> usize {
     let width = framed::u8_at(request, 1);
     if !is_width(width) {
         return 0;

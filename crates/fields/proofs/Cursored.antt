@@ -7,7 +7,7 @@ use Prim.Native.Nat.{ℕ, _+_, _≤_, _<_}
 use lib.ListN.{length}
 use borrow.Author.Tests.{le-leb, lt-leb, leb-true}
 use Rattle.fields.specs.Fields.{pick, le, part, fits, put}
-use Rattle.fields.specs.Cursors.{moved, taken, runAt, putAt, afterPut}
+use Rattle.fields.specs.Cursors.{moved, taken, runAt, putAt, after}
 use Rattle.fields.specs.declared.Cursor.{Cursor}
 
 -- a test that is known picks
@@ -31,9 +31,12 @@ module _ (n : ℕ) (s : List ℕ) (c : Cursor) (h : c .at + n ≤ length s) wher
   pub hands-run : part n s (c .at) ≡ runAt n s c
   hands-run = picked (fits n s (c .at)) (part n s (c .at)) [] there
 
-  pub puts : (v l : List ℕ) → length v ≡ n → l ≡ put v s (c .at) → (moved n c ≡ afterPut n s c) × (l ≡ putAt v s c)
+  pub goes-after : moved n c ≡ after n s c
+  goes-after = picked (fits n s (c .at)) (moved n c) c there
+
+  pub puts : (v l : List ℕ) → length v ≡ n → l ≡ put v s (c .at) → (moved n c ≡ after n s c) × (l ≡ putAt v s c)
   puts v l k e = (
-    picked (fits n s (c .at)) (moved n c) c there,
+    goes-after,
     e ∙ picked (fits (length v) s (c .at)) (put v s (c .at)) s (ap (λ (m : ℕ). fits m s (c .at)) k ∙ there),
   )
 
@@ -48,9 +51,12 @@ module _ (n : ℕ) (s : List ℕ) (c : Cursor) (h : length s < c .at + n) where
   pub hands-nothing : [] ≡ runAt n s c
   hands-nothing = passed (fits n s (c .at)) (part n s (c .at)) [] short
 
-  pub puts-nothing : (v : List ℕ) → length v ≡ n → (c ≡ afterPut n s c) × (s ≡ putAt v s c)
+  pub stays-after : c ≡ after n s c
+  stays-after = passed (fits n s (c .at)) (moved n c) c short
+
+  pub puts-nothing : (v : List ℕ) → length v ≡ n → (c ≡ after n s c) × (s ≡ putAt v s c)
   puts-nothing v k = (
-    passed (fits n s (c .at)) (moved n c) c short,
+    stays-after,
     passed (fits (length v) s (c .at)) (put v s (c .at)) s (ap (λ (m : ℕ). fits m s (c .at)) k ∙ short),
   )
 

@@ -1,7 +1,13 @@
-pub mod Picks
-pub mod Parts
 pub mod Back
-pub mod Widths
-pub mod Put
+pub mod ByReader
 pub mod Cursored
 pub mod Laws
+pub mod Parts
+pub mod Picks
+pub mod Put
+pub mod Puts
+pub mod ReadParts
+pub mod Spent
+pub mod Takes
+pub mod Types
+pub mod Widths

@@ -1,2 +1,3 @@
 pub mod Fields
 pub mod Cursors
+pub mod Holders

@@ -7,9 +7,14 @@ ghost use mathlib.Core.Path.{_≡_};
 ghost use Prim.Native.Nat.{_-_};
 ghost use lib.ListN.{length, drop};
 ghost use Rattle.fields.specs.Fields.{le, leBytes};
-ghost use Rattle.fields.specs.Cursors.{atFront, taken, runAt, putAt, afterPut};
+ghost use Rattle.fields.specs.Cursors.{atFront, taken, orZeroU8, orZeroU16, orZeroU32, orZeroU64, runAt, putAt, after};
 
 pub mod inside;
+mod reading;
+mod writing;
+
+pub use reading::Reader;
+pub use writing::Writer;
 
 // A place in a slice.
 pub struct Cursor {
@@ -43,6 +48,51 @@ pub enum TakenRun {
     Nothing,
 }
 
+// The number that was read; 0, where nothing was.
+impl TakenU8 {
+    pub fn or_zero(self) -> u8
+        ensures { λ r. ⌜ r ≡ orZeroU8 self ⌝ }
+    {
+        match self {
+            TakenU8::Value(x, _) => x,
+            TakenU8::Nothing => 0,
+        }
+    }
+}
+
+impl TakenU16 {
+    pub fn or_zero(self) -> u16
+        ensures { λ r. ⌜ r ≡ orZeroU16 self ⌝ }
+    {
+        match self {
+            TakenU16::Value(x, _) => x,
+            TakenU16::Nothing => 0,
+        }
+    }
+}
+
+impl TakenU32 {
+    pub fn or_zero(self) -> u32
+        ensures { λ r. ⌜ r ≡ orZeroU32 self ⌝ }
+    {
+        match self {
+            TakenU32::Value(x, _) => x,
+            TakenU32::Nothing => 0,
+        }
+    }
+}
+
+impl TakenU64 {
+    pub fn or_zero(self) -> u64
+        ensures { λ r. ⌜ r ≡ orZeroU64 self ⌝ }
+    {
+        match self {
+            TakenU64::Value(x, _) => x,
+            TakenU64::Nothing => 0,
+        }
+    }
+}
+
 // The cursor at the front.
 pub fn front() -> Cursor
     ensures { λ r. ⌜ r ≡ atFront ⌝ }
@@ -55,6 +105,20 @@ fn room(len: usize, at: usize) -> usize
     ensures { λ r. ⌜ r ≡ len - at ⌝ }
 {
     if at <= len { len - at } else { 0 }
+}
+
+// The cursor n bytes on; where they are not all there, the same.
+pub(crate) fn after(s: &[u8], c: Cursor, n: usize) -> Cursor
+    ensures { λ r. ⌜ r ≡ after n (now (s .entry)) c ⌝ }
+{
+    let at = c.at;
+    if s.len() < at {
+        return c;
+    }
+    if s.len() - at < n {
+        return c;
+    }
+    Cursor { at: at + n }
 }
 
 pub fn take_u8(s: &[u8], c: Cursor) -> TakenU8
@@ -149,7 +213,7 @@ pub fn written(s: &[u8], c: Cursor) -> &[u8]
 }
 
 pub fn put_u8(out: &mut [u8], c: Cursor, x: u8) -> Cursor
-    ensures { λ r. ⌜ r ≡ afterPut 1 (now (out .entry)) c ⌝ }
+    ensures { λ r. ⌜ r ≡ after 1 (now (out .entry)) c ⌝ }
     ensures { λ _. ⌜ now (out .exit) ≡ putAt (leBytes 1 x) (now (out .entry)) c ⌝ }
 {
     let at = c.at;
@@ -161,7 +225,7 @@ pub fn put_u8(out: &mut [u8], c: Cursor, x: u8) -> Cursor
 }
 
 pub fn put_u16(out: &mut [u8], c: Cursor, x: u16) -> Cursor
-    ensures { λ r. ⌜ r ≡ afterPut 2 (now (out .entry)) c ⌝ }
+    ensures { λ r. ⌜ r ≡ after 2 (now (out .entry)) c ⌝ }
     ensures { λ _. ⌜ now (out .exit) ≡ putAt (leBytes 2 x) (now (out .entry)) c ⌝ }
 {
     let at = c.at;
@@ -173,7 +237,7 @@ pub fn put_u16(out: &mut [u8], c: Cursor, x: u16) -> Cursor
 }
 
 pub fn put_u32(out: &mut [u8], c: Cursor, x: u32) -> Cursor
-    ensures { λ r. ⌜ r ≡ afterPut 4 (now (out .entry)) c ⌝ }
+    ensures { λ r. ⌜ r ≡ after 4 (now (out .entry)) c ⌝ }
     ensures { λ _. ⌜ now (out .exit) ≡ putAt (leBytes 4 x) (now (out .entry)) c ⌝ }
 {
     let at = c.at;
@@ -185,7 +249,7 @@ pub fn put_u32(out: &mut [u8], c: Cursor, x: u32) -> Cursor
 }
 
 pub fn put_u64(out: &mut [u8], c: Cursor, x: u64) -> Cursor
-    ensures { λ r. ⌜ r ≡ afterPut 8 (now (out .entry)) c ⌝ }
+    ensures { λ r. ⌜ r ≡ after 8 (now (out .entry)) c ⌝ }
     ensures { λ _. ⌜ now (out .exit) ≡ putAt (leBytes 8 x) (now (out .entry)) c ⌝ }
 {
     let at = c.at;
@@ -197,7 +261,7 @@ pub fn put_u64(out: &mut [u8], c: Cursor, x: u64) -> Cursor
 }
 
 pub fn put_run(out: &mut [u8], c: Cursor, bytes: &[u8]) -> Cursor
-    ensures { λ r. ⌜ r ≡ afterPut (length (now (bytes .entry))) (now (out .entry)) c ⌝ }
+    ensures { λ r. ⌜ r ≡ after (length (now (bytes .entry))) (now (out .entry)) c ⌝ }
     ensures { λ _. ⌜ now (out .exit) ≡ putAt (now (bytes .entry)) (now (out .entry)) c ⌝ }
 {
     let at = c.at;

@@ -31,12 +31,12 @@ use denote.Memory.{cellAt, partAt, mem, shares, partOf}
 use denote.Slice.{sliceVal, MutSlice, ShrSlice, Room, finally}
 use denote.Steps.{peeks}
 use Rattle.index.specs.declared.Entry.{Entry}
-use Rattle.index.proofs.Calls.{good}
+use Rattle.byhand.proofs.Calls.{good}
 use Rattle.index.proofs.Elem.{R, sl}
 use Rattle.index.proofs.Entry.Laws as E′
 use Rattle.index.proofs.Values.{anEntry}
-use Rattle.journal.proofs.LentLocal.{array-in}
-use Rattle.journal.proofs.Values.{anArray}
+use Rattle.byhand.proofs.LentLocal.{array-in}
+use Rattle.byhand.proofs.Values.{anArray}
 
 module _ {M : Type 1} (𝓤 : URA M) (H : Heap 𝓤) (A : Atoms 𝓤) (W : Given 𝓤 H A) (n l : ℕ) where
   abbrev τ : Ty

@@ -1,4 +1,4 @@
--- What the functions that hold an index by value hand over, as the call rules take it (crate `index`, `Calls.antt`'s `Value`).
+-- What the functions that hold an index by value hand over, as the call rules take it (crate `byhand`, `Calls.antt`'s `Value`).
 -- Assumes nothing.
 use mathlib.Core.Path.{_≡_, _∙_, subst}
 use Prim.Native.Nat.{ℕ, _≤_}
@@ -13,15 +13,16 @@ use denote.Slice.{Room}
 use denote.Struct.Field.{Field, array-field}
 use denote.Struct.Laws as LL
 use Rattle.index.specs.declared.Entry.{Entry}
-use Rattle.index.proofs.Calls.{Value, good}
+use Rattle.byhand.proofs.Calls.{Value, good}
 use Rattle.index.proofs.Elem.{R}
 use Rattle.index.proofs.Entry as entry
 use Rattle.index.proofs.Filed as filed
 use Rattle.index.proofs.Filed.Laws as filed′
-use Rattle.index.proofs.Values.{aStruct, anEntry, aFiled}
+use Rattle.byhand.proofs.Values.{anArray, aStruct, good-of}
+use Rattle.index.proofs.Values.{anEntry, aFiled}
 use Rattle.journal.proofs.answers.Scan as scan
 use Rattle.journal.proofs.answers.Scan.Laws as scan′
-use Rattle.journal.proofs.Values.{anArray, aScan}
+use Rattle.journal.proofs.Values.{aScan}
 use Rattle.held.specs.declared.Inserted.{Inserted}
 use Rattle.held.specs.declared.Scanned.{Scanned}
 use Rattle.held.proofs.Inserted as inserted
@@ -60,10 +61,6 @@ as-field : (n : ℕ) (L : LL.FLaws (array-field F n)) (xs : List Entry) (vs : Li
 as-field n L xs vs p =
     let is : Is (Array (F .row) n) (map (F .into) xs) vs = (p .0, ((p .1 .0 .0, length-map xs (F .into) ∙ p .1 .0 .1), each-field xs (p .0) (p .1 .1))) in
     subst (Is (Array (F .row) n) (map (F .into) xs)) (L .tells (map (F .into) xs) vs is) is
-
--- whatever machine values a value has, they are the ones that the rules take
-good-of : (D : Value) (x : D .row .Denot) (vs : List Val) → Is (D .row) x vs → good D x
-good-of D x vs is = subst (Is (D .row) x) (D .tells x vs is) is
 
 -- what is made of good parts is good
 pub inserted-good : (r : Inserted) → good aFiled (r .filed) → good anIndex (r .entries) → good anInserted r

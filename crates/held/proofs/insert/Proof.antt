@@ -1,6 +1,6 @@
 -- `held::insert` meets its contract: a walk of its MIR, by hand. The first of the entries, as many as `within` says, are lent to `index::insert` for a lifetime that is made for the call; once it is over, the local holds an array again, which is handed back.
 -- Assumes nothing.
-use Rattle.index.proofs.Walk.{refl, ℕ, _<_, _≤_, _^_, List, [], _∷_, length, URA, fullShare, named, w64, Ty, mut, erased, tyInt, tyRef, tyArray, Val, vint, SProp, ent, id⊢, GName, ftrue, fat, flft, Memory, Routine, Heap, Calls, Loops, WpFn, Tables, Env, Atoms, Fun, fact, factI, givenOf, tables, tablesOf, Given, ‵, _⊛_, ⋆, _$_, _∵_, !, qed, by, move, split, join, fsplit, fjoin, feqL, suffices, done, drop, raw, some, later, await, pick, use1, use3, group, Item, agg, look, init, stop, from, load, of-opd, assigns, returns, enter, alloc1, alloc0, params1, pass1, pass0, addr, and-then, no-more, land, WpFn-mono, FmC, fmOf, owns, Is, uint-vals, uint-tells, usize, u64, sliceVal, MutSlice, sliceTy, plain, nothing, owned, heard, Vals, onEntry, Meets, tripleOf, entered, cited, Stays, walkOf, Walks, ends-at, walked, walk-meets, yes, pointee, lft-new, lft-end, Contract, Triple, subst, sym, _≡_, emp, via, fst∗, use0}
+use Rattle.byhand.proofs.Walk.{refl, ℕ, _<_, _≤_, _^_, List, [], _∷_, length, URA, fullShare, named, w64, Ty, mut, erased, tyInt, tyRef, tyArray, Val, vint, SProp, ent, id⊢, GName, ftrue, fat, flft, Memory, Routine, Heap, Calls, Loops, WpFn, Tables, Env, Atoms, Fun, fact, factI, givenOf, tables, tablesOf, Given, ‵, _⊛_, ⋆, _$_, _∵_, !, qed, by, move, split, join, fsplit, fjoin, feqL, suffices, done, drop, raw, some, later, await, pick, use1, use3, group, Item, agg, look, init, stop, from, load, of-opd, assigns, returns, enter, alloc1, alloc0, params1, pass1, pass0, addr, and-then, no-more, land, WpFn-mono, FmC, fmOf, owns, Is, uint-vals, uint-tells, usize, u64, sliceVal, MutSlice, sliceTy, plain, nothing, owned, heard, Vals, onEntry, Meets, tripleOf, entered, cited, Stays, walkOf, Walks, ends-at, walked, walk-meets, yes, pointee, lft-new, lft-end, Contract, Triple, subst, sym, _≡_, emp, via, fst∗, use0}
 use mathlib.Core.Path.{ap, ap₂, _∙_}
 use mathlib.Core.List.{_++_}
 use Prim.Native.Nat.{min}
@@ -9,19 +9,18 @@ use lib.ListN.{take, drop as drop-list}
 use denote.Triple.Walked.{stay-dropped, goes-dropped}
 use Rattle.index.specs.declared.Entry.{Entry}
 use Rattle.index.specs.declared.Filed.{Filed}
-use Rattle.index.proofs.Calls.{aWord, good, goes-on, calls-value}
+use Rattle.byhand.proofs.Calls.{aWord, good, goes-on, calls-value, both}
 use Rattle.index.proofs.Elem.{R, sl}
 use Rattle.index.proofs.Entry.Laws as E′
 use Rattle.index.proofs.Filed.Laws as F′
-use Rattle.index.proofs.Locals.{full, leaves}
+use Rattle.byhand.proofs.Locals.{full, leaves}
 use Rattle.index.proofs.Values.{anEntry, aFiled}
 use Rattle.index.proofs.insert as insert
 use Rattle.index.proofs.insert.Symbol as insert-def
 use Rattle.index.proofs.insert.Symbol.{name as #insert}
 use Rattle.index.proofs.insert.Met as insert-thm
-use Rattle.journal.proofs.CallsHeld.{calls-giving}
+use Rattle.byhand.proofs.CallsHeld.{calls-giving}
 use Rattle.index.specs.Insert.{insertAnswer, insertOut}
-use Rattle.index.proofs.CallsFile.{both}
 use Rattle.held.specs.declared.Inserted.{Inserted}
 use Rattle.held.specs.Held.{heldInsert}
 use Rattle.held.proofs.Front.{FrontLent, lends-front, front-back}

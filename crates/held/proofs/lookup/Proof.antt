@@ -1,6 +1,6 @@
 -- `held::lookup` meets its contract: a walk of its MIR, by hand. The first of the entries, as many as `within` says, are lent to `index::lookup` for a lifetime that is made for the call.
 -- Assumes nothing.
-use Rattle.index.proofs.Walk.{refl, ℕ, _<_, _≤_, _^_, List, [], _∷_, length, URA, fullShare, named, w64, Ty, imm, erased, tyInt, tyRef, tyArray, Val, vint, SProp, ent, id⊢, GName, ftrue, flft, froom, Memory, Routine, Heap, Calls, Loops, WpFn, Tables, Env, Atoms, Fun, factI, givenOf, tables, tablesOf, Given, ‵, _⊛_, ⋆, _$_, _∵_, !, qed, by, move, split, join, fjoin, suffices, done, drop, raw, some, later, await, pick, use1, use2, group, Item, agg, look, init, stop, from, load, of-opd, assigns, returns, enter, alloc1, alloc0, params1, pass1, pass0, addr, and-then, no-more, land, WpFn-mono, FmC, fmOf, owns, Is, uint-vals, uint-tells, usize, u64, sliceVal, ShrSlice, sliceTy, plain, nothing, owned, Vals, onEntry, Meets, tripleOf, entered, cited, Stays, walkOf, Walks, ends-at, walked, walk-meets, yes, pointee, lft-new, lft-end, Contract, Triple, subst, sym, _≡_, emp, via, fst∗, use0, fact}
+use Rattle.byhand.proofs.Walk.{refl, ℕ, _<_, _≤_, _^_, List, [], _∷_, length, URA, fullShare, named, w64, Ty, imm, erased, tyInt, tyRef, tyArray, Val, vint, SProp, ent, id⊢, GName, ftrue, flft, froom, Memory, Routine, Heap, Calls, Loops, WpFn, Tables, Env, Atoms, Fun, factI, givenOf, tables, tablesOf, Given, ‵, _⊛_, ⋆, _$_, _∵_, !, qed, by, move, split, join, fjoin, suffices, done, drop, raw, some, later, await, pick, use1, use2, group, Item, agg, look, init, stop, from, load, of-opd, assigns, returns, enter, alloc1, alloc0, params1, pass1, pass0, addr, and-then, no-more, land, WpFn-mono, FmC, fmOf, owns, Is, uint-vals, uint-tells, usize, u64, sliceVal, ShrSlice, sliceTy, plain, nothing, owned, Vals, onEntry, Meets, tripleOf, entered, cited, Stays, walkOf, Walks, ends-at, walked, walk-meets, yes, pointee, lft-new, lft-end, Contract, Triple, subst, sym, _≡_, emp, via, fst∗, use0, fact}
 use mathlib.Core.Path.{ap, _∙_}
 use Prim.Native.Nat.{min}
 use native.Mathlib.Omega.{arith}
@@ -10,17 +10,17 @@ use Rattle.index.specs.declared.Entry.{Entry}
 use Rattle.index.specs.declared.Found.{Found}
 use Rattle.index.specs.Insert.{lookupIn}
 use Rattle.held.specs.Held.{heldLookup}
-use Rattle.index.proofs.Calls.{aWord, good, goes-on, calls-value}
+use Rattle.byhand.proofs.Calls.{aWord, good, goes-on, calls-value}
 use Rattle.index.proofs.Elem.{R, sl}
 use Rattle.index.proofs.Entry.Laws as E′
 use Rattle.index.proofs.Found.Laws as F′
-use Rattle.index.proofs.Locals.{free, full, leaves}
+use Rattle.byhand.proofs.Locals.{free, full, leaves}
 use Rattle.index.proofs.Values.{aFound}
 use Rattle.index.proofs.lookup as lookup
 use Rattle.index.proofs.lookup.Symbol as lookup-def
 use Rattle.index.proofs.lookup.Symbol.{name as #lookup}
 use Rattle.index.proofs.lookup.Met as lookup-thm
-use Rattle.journal.proofs.CallsHeld.{calls-giving}
+use Rattle.byhand.proofs.CallsHeld.{calls-giving}
 use Rattle.held.proofs.Front.{FrontShown, shows-front, shown-back}
 use Rattle.held.proofs.Values.{anIndex, index-length, index-room}
 use Rattle.held.proofs.within as within

@@ -1,6 +1,6 @@
 -- `held::scan` meets its contract: a walk of its MIR, by hand. The first of the entries, as many as `within` says, are lent to `journal::scan` for a lifetime that is made for the call; once it is over, the local holds an array again, which is handed back.
 -- Assumes nothing.
-use Rattle.index.proofs.Walk.{refl, ℕ, _<_, _≤_, _^_, List, [], _∷_, length, URA, fullShare, named, w8, w64, Ty, imm, mut, erased, tyInt, tyRef, tyArray, Val, vint, SProp, ent, id⊢, Lft, GName, Share, ftrue, fat, flft, Memory, Routine, Heap, Calls, Loops, WpFn, Tables, Env, Atoms, Fun, fact, factI, givenOf, tables, tablesOf, Given, ‵, _⊛_, ⋆, _$_, _∵_, !, qed, by, move, split, join, fsplit, fjoin, feqL, suffices, done, drop, raw, some, later, await, pick, use0, use1, use3, group, Item, agg, look, init, stop, from, load, of-opd, assigns, returns, enter, alloc1, alloc0, params1, pass1, pass0, addr, and-then, no-more, land, WpFn-mono, FmC, fmOf, owns, Is, uint-vals, uint-tells, u8, usize, u64, RefT, now, sliceVal, ShrSlice, MutSlice, Room, slice-vals, shr-slice-tells, sliceTy, plain, nothing, owned, heard, Vals, onEntry, Meets, tripleOf, entered, cited, Stays, walkOf, Walks, ends-at, walked, walk-meets, yes, pointee, lft-new, lft-end, Contract, Triple, subst, sym, _≡_, emp, via, fst∗}
+use Rattle.byhand.proofs.Walk.{refl, ℕ, _<_, _≤_, _^_, List, [], _∷_, length, URA, fullShare, named, w8, w64, Ty, imm, mut, erased, tyInt, tyRef, tyArray, Val, vint, SProp, ent, id⊢, Lft, GName, Share, ftrue, fat, flft, Memory, Routine, Heap, Calls, Loops, WpFn, Tables, Env, Atoms, Fun, fact, factI, givenOf, tables, tablesOf, Given, ‵, _⊛_, ⋆, _$_, _∵_, !, qed, by, move, split, join, fsplit, fjoin, feqL, suffices, done, drop, raw, some, later, await, pick, use0, use1, use3, group, Item, agg, look, init, stop, from, load, of-opd, assigns, returns, enter, alloc1, alloc0, params1, pass1, pass0, addr, and-then, no-more, land, WpFn-mono, FmC, fmOf, owns, Is, uint-vals, uint-tells, u8, usize, u64, RefT, now, sliceVal, ShrSlice, MutSlice, Room, slice-vals, shr-slice-tells, sliceTy, plain, nothing, owned, heard, Vals, onEntry, Meets, tripleOf, entered, cited, Stays, walkOf, Walks, ends-at, walked, walk-meets, yes, pointee, lft-new, lft-end, Contract, Triple, subst, sym, _≡_, emp, via, fst∗}
 use mathlib.Core.Path.{ap, ap₂, _∙_}
 use mathlib.Core.List.{_++_}
 use Prim.Native.Nat.{min}
@@ -11,14 +11,13 @@ use denote.Ref.{ptr}
 use denote.Signature.{shrSliceOf}
 use denote.Triple.Walked.{stay-dropped, goes-dropped}
 use Rattle.index.specs.declared.Entry.{Entry}
-use Rattle.index.proofs.Calls.{aWord, good, goes-on, calls-value}
-use Rattle.index.proofs.CallsFile.{both}
+use Rattle.byhand.proofs.Calls.{aWord, good, goes-on, calls-value, both}
 use Rattle.index.proofs.Elem.{R, sl}
 use Rattle.index.proofs.Entry.Laws as E′
-use Rattle.index.proofs.Locals.{full, leaves}
+use Rattle.byhand.proofs.Locals.{full, leaves}
 use Rattle.journal.specs.declared.Rule.{Rule}
 use Rattle.journal.specs.declared.answers.Scan.{Scan}
-use Rattle.journal.proofs.CallsHeld.{Seen, calls-giving}
+use Rattle.byhand.proofs.CallsHeld.{Seen, calls-giving}
 use Rattle.journal.proofs.Rule.Laws as R′
 use Rattle.journal.proofs.Values.{aRule, aScan}
 use Rattle.journal.proofs.answers.Scan.Laws as A′

@@ -1,6 +1,6 @@
 -- `host::bulvreden_scan` meets its contract: a walk of its MIR, by hand. A kind that no rule has is the answer, and no entry changes. Else the entries are given to `journal::scan` for good, under the rule of the kind, and `flat` makes numbers of its answer.
 -- Assumes nothing.
-use Rattle.index.proofs.Walk.{_≡_, refl, sym, _∙_, ℕ, _<_, _^_, List, [], _∷_, length, URA, named, w8, w64, Ty, imm, mut, erased, tyInt, tyBool, tyRef, Val, vint, vbool, SProp, ent, emp, id⊢, via, fst∗, Lft, GName, Share, ftrue, flft, Memory, Routine, Heap, Calls, Loops, WpFn, Tables, Env, Wp, afterSeq, atReturn, Atoms, Fun, fact, factI, givenOf, tables, tablesOf, Given, ‵, _⊛_, ⋆, _$_, _∵_, !, qed, by, move, keep, split, join, fsplit, fjoin, feqL, suffices, done, drop, raw, use0, use1, group, Item, Sq, runs, anyQ, atRet, whole, sub, look-in, agg, look, init, forget, stop, hop, un, fld, from, load, assigns, returns, returns-within, enter, alloc1, alloc0, params1, pass1, pass0, first, skips, branches, exec, addr, and-then, no-more, land, WpFn-mono, FmC, fmOf, owns, Is, uint-vals, uint-tells, u8, u64, RefT, now, sliceVal, ShrSlice, MutSlice, Room, slice-vals, shr-slice-tells, mut-slice-tells, finally, sliceTy, plain, nothing, owned, Vals, onEntry, Meets, tripleOf, entered, cited, Stays, walkOf, Walks, ends-at, walked, walk-meets, yes, Bool, true, false, not, T, pointee, Contract, Triple}
+use Rattle.byhand.proofs.Walk.{_≡_, refl, sym, _∙_, ℕ, _<_, _^_, List, [], _∷_, length, URA, named, w8, w64, Ty, imm, mut, erased, tyInt, tyBool, tyRef, Val, vint, vbool, SProp, ent, emp, id⊢, via, fst∗, Lft, GName, Share, ftrue, flft, Memory, Routine, Heap, Calls, Loops, WpFn, Tables, Env, Wp, afterSeq, atReturn, Atoms, Fun, fact, factI, givenOf, tables, tablesOf, Given, ‵, _⊛_, ⋆, _$_, _∵_, !, qed, by, move, keep, split, join, fsplit, fjoin, feqL, suffices, done, drop, raw, use0, use1, group, Item, Sq, runs, anyQ, atRet, whole, sub, look-in, agg, look, init, forget, stop, hop, un, fld, from, load, assigns, returns, returns-within, enter, alloc1, alloc0, params1, pass1, pass0, first, skips, branches, exec, addr, and-then, no-more, land, WpFn-mono, FmC, fmOf, owns, Is, uint-vals, uint-tells, u8, u64, RefT, now, sliceVal, ShrSlice, MutSlice, Room, slice-vals, shr-slice-tells, mut-slice-tells, finally, sliceTy, plain, nothing, owned, Vals, onEntry, Meets, tripleOf, entered, cited, Stays, walkOf, Walks, ends-at, walked, walk-meets, yes, Bool, true, false, not, T, pointee, Contract, Triple}
 use denote.Builtin.{bool}
 use denote.Plain.{bool-tells, bool-makes, bool-lawful}
 use denote.Ref.{ptr}
@@ -8,15 +8,14 @@ use denote.Signature.{shrSliceOf}
 use denote.Triple.Walked.{stay-dropped, goes-dropped, gave-slice, goes-gave-slice}
 use Rattle.index.specs.declared.Entry.{Entry}
 use Rattle.index.proofs.Bodies.{thenOf}
-use Rattle.index.proofs.Calls.{Value, aWord, good, goes-on, calls-value}
-use Rattle.index.proofs.CallsFile.{both}
+use Rattle.byhand.proofs.Calls.{Value, aWord, good, goes-on, calls-value, both}
 use Rattle.index.proofs.Elem.{R, sl, Has}
-use Rattle.index.proofs.Locals.{Slot, free, full, held, leaves}
-use Rattle.index.proofs.Values.{aStruct}
+use Rattle.byhand.proofs.Locals.{Slot, free, full, held, leaves}
+use Rattle.byhand.proofs.Values.{aStruct}
 use Rattle.journal.specs.declared.Rule.{Rule}
 use Rattle.journal.specs.declared.answers.Scan.{Scan}
 use Rattle.journal.specs.Scan.{scanOf, indexAfter}
-use Rattle.journal.proofs.CallsHeld.{Seen, slice-ends, calls-giving}
+use Rattle.byhand.proofs.CallsHeld.{Seen, slice-ends, calls-giving}
 use Rattle.journal.proofs.Turned.{is-false}
 use Rattle.journal.proofs.Values.{aRule, aScan}
 use Rattle.journal.proofs.Rule.Laws as R′

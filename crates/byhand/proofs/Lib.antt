@@ -1,0 +1,10 @@
+pub mod Again
+pub mod Calls
+pub mod CallsHeld
+pub mod CallsLent
+pub mod LentHolder
+pub mod LentLocal
+pub mod Locals
+pub mod Shared
+pub mod Values
+pub mod Walk

@@ -5,6 +5,7 @@ pub mod CallsLent
 pub mod LentHolder
 pub mod LentLocal
 pub mod Locals
+pub mod OfSlice
 pub mod Shared
 pub mod Values
 pub mod Walk

@@ -2,6 +2,7 @@ pub mod Again
 pub mod Calls
 pub mod CallsHeld
 pub mod CallsLent
+pub mod Constants
 pub mod LentHolder
 pub mod LentLocal
 pub mod Locals

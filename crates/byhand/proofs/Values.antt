@@ -1,5 +1,5 @@
 -- Types as values that are handed over (`Calls.antt`'s `Value`).
---     aByte, aPair, aHalf     a u8, a u16, a u32
+--     aByte, aPair, aHalf     a u8, a u16, a u32.        aBool     a bool
 --     anArray          an array of n values
 --     aStruct, anEnum  any struct, and any enum, of its generated laws
 --     good-of          whatever machine values a value has, they are the ones that the rules take
@@ -8,15 +8,15 @@ use mathlib.Core.Path.{subst}
 use Prim.Native.Nat.{ℕ}
 use mathlib.Core.List.{List, [], _∷_, map}
 use mir.Syntax.{w8, w16, w32}
-use mir.Val.{Val, vint}
+use mir.Val.{Val, vint, vbool}
 use denote.Array.{Array, arrayVal, array-tells, array-makes, array-typed}
-use denote.Builtin.{u8, u16, u32}
+use denote.Builtin.{u8, u16, u32, bool}
 use denote.Enum.Declared as E
 use denote.Enum.Enum.{Few, Plainss}
 use denote.Enum.Laws as EL
 use denote.Laws.{Is}
 use denote.Lowered.{Lowered}
-use denote.Plain.{uint-tells, uint-makes, uint-lawful}
+use denote.Plain.{uint-tells, uint-makes, uint-lawful, bool-tells, bool-makes, bool-lawful}
 use denote.Struct.Declared as S
 use denote.Struct.Laws as LL
 use denote.Struct.Struct.{Plains}
@@ -47,6 +47,15 @@ aHalf = record {
   tells = uint-tells w32;
   makes = λ 𝓤 H A W. uint-makes 𝓤 H A W w32;
   typed = λ 𝓤 H A W. uint-lawful 𝓤 H A W w32 .typed;
+}
+
+abbrev pub aBool : Value
+aBool = record {
+  row = bool;
+  val = vbool;
+  tells = bool-tells;
+  makes = λ 𝓤 H A W. bool-makes 𝓤 H A W;
+  typed = λ 𝓤 H A W. bool-lawful 𝓤 H A W .typed;
 }
 
 abbrev pub anArray : Value → ℕ → Value

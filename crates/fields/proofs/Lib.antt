@@ -1,5 +1,6 @@
 pub mod Back
 pub mod ByReader
+pub mod ByWriter
 pub mod Cursored
 pub mod Laws
 pub mod Parts

@@ -167,7 +167,7 @@ module _ {M : Type 1} (𝓤 : URA M) (H : Heap 𝓤) (A : Atoms 𝓤) (W : Given
 
 -- ---- a number of the width w, in n bytes
 module _ (w : Width) (n : ℕ) where
-  abbrev aNumber : BC.Value
+  abbrev pub aNumber : BC.Value
   aNumber = record {
     row = UInt w;
     val = vint w;

@@ -1,8 +1,16 @@
 // Little-endian fields: reads and writes of numbers and of runs of bytes, on a slice and a cursor.
 //
 // A cursor is a place, any place. A read past the end takes nothing, and says so; a write past the end writes nothing, and
-// leaves the cursor where it was. No function asks anything of its caller. The definitions are specs/Fields.antt and
-// specs/Cursors.antt; proofs/Laws.antt has the laws: what was written is read back, and nothing else changes.
+// leaves the cursor where it was. No function asks anything of its caller. `Reader` and `Writer` hold the slice and the place in one:
+//
+//     let mut input = Reader::new(bytes);        let mut to = Writer::new(&mut bytes);
+//     let length = input.u32();                  to.put_u32(length);
+//     let name = input.take(8);                  to.put(name);
+//     let all_else = input.rest();
+//
+// The definitions are specs/Fields.antt, specs/Cursors.antt and specs/Holders.antt; proofs/Laws.antt has the laws: what was written is read
+// back, and nothing else changes. A function that has a `Reader` or a `Writer` in a local is proved by hand: proofs/ByReader.antt and
+// proofs/ByWriter.antt have the rules.
 ghost use mathlib.Core.Path.{_≡_};
 ghost use Prim.Native.Nat.{_-_};
 ghost use lib.ListN.{length, drop};

@@ -1,8 +1,6 @@
 -- `host::bulvreden_scan` meets its contract: a walk of its MIR, by hand. A kind that no rule has is the answer, and no entry changes. Else the entries are given to `journal::scan` for good, under the rule of the kind, and `flat` makes numbers of its answer.
 -- Assumes nothing.
-use Rattle.byhand.proofs.Walk.{_≡_, refl, sym, _∙_, ℕ, _<_, _^_, List, [], _∷_, length, URA, named, w8, w64, Ty, imm, mut, erased, tyInt, tyBool, tyRef, Val, vint, vbool, SProp, ent, emp, id⊢, via, fst∗, Lft, GName, Share, ftrue, flft, Memory, Routine, Heap, Calls, Loops, WpFn, Tables, Env, Wp, afterSeq, atReturn, Atoms, Fun, fact, factI, givenOf, tables, tablesOf, Given, ‵, _⊛_, ⋆, _$_, _∵_, !, qed, by, move, keep, split, join, fsplit, fjoin, feqL, suffices, done, drop, raw, use0, use1, group, Item, Sq, runs, anyQ, atRet, whole, sub, look-in, agg, look, init, forget, stop, hop, un, fld, from, load, assigns, returns, returns-within, enter, alloc1, alloc0, params1, pass1, pass0, first, skips, branches, exec, addr, and-then, no-more, land, WpFn-mono, FmC, fmOf, owns, Is, uint-vals, uint-tells, u8, u64, RefT, now, sliceVal, ShrSlice, MutSlice, Room, slice-vals, shr-slice-tells, mut-slice-tells, finally, sliceTy, plain, nothing, owned, Vals, onEntry, Meets, tripleOf, entered, cited, Stays, walkOf, Walks, ends-at, walked, walk-meets, yes, Bool, true, false, not, T, pointee, Contract, Triple}
-use denote.Builtin.{bool}
-use denote.Plain.{bool-tells, bool-makes, bool-lawful}
+use Rattle.byhand.proofs.Walk.{_≡_, refl, sym, _∙_, ℕ, _<_, _^_, List, [], _∷_, length, URA, named, w8, w64, Ty, imm, mut, erased, tyInt, tyBool, tyRef, Val, vint, SProp, ent, emp, id⊢, via, fst∗, Lft, GName, Share, ftrue, flft, Memory, Routine, Heap, Calls, Loops, WpFn, Tables, Env, Wp, afterSeq, atReturn, Atoms, Fun, fact, factI, givenOf, tables, tablesOf, Given, ‵, _⊛_, ⋆, _$_, _∵_, !, qed, by, move, keep, split, join, fsplit, fjoin, feqL, suffices, done, drop, raw, use0, use1, group, Item, Sq, runs, anyQ, atRet, whole, sub, look-in, agg, look, init, forget, stop, hop, un, fld, from, load, assigns, returns, returns-within, enter, alloc1, alloc0, params1, pass1, pass0, first, skips, branches, exec, addr, and-then, no-more, land, WpFn-mono, FmC, fmOf, owns, Is, uint-vals, uint-tells, u8, u64, RefT, now, sliceVal, ShrSlice, MutSlice, Room, slice-vals, shr-slice-tells, mut-slice-tells, finally, sliceTy, plain, nothing, owned, Vals, onEntry, Meets, tripleOf, entered, cited, Stays, walkOf, Walks, ends-at, walked, walk-meets, yes, Bool, true, false, not, T, pointee, Contract, Triple}
 use denote.Ref.{ptr}
 use denote.Signature.{shrSliceOf}
 use denote.Triple.Walked.{stay-dropped, goes-dropped, gave-slice, goes-gave-slice}
@@ -11,7 +9,7 @@ use Rattle.index.proofs.Bodies.{thenOf}
 use Rattle.byhand.proofs.Calls.{Value, aWord, good, goes-on, calls-value, both}
 use Rattle.index.proofs.Elem.{R, sl, Has}
 use Rattle.byhand.proofs.Locals.{Slot, free, full, held, leaves}
-use Rattle.byhand.proofs.Values.{aStruct}
+use Rattle.byhand.proofs.Values.{aBool, aStruct}
 use Rattle.journal.specs.declared.Rule.{Rule}
 use Rattle.journal.specs.declared.answers.Scan.{Scan}
 use Rattle.journal.specs.Scan.{scanOf, indexAfter}
@@ -62,15 +60,6 @@ slice = sliceTy (tyRef (named 1) mut (pointee (R .written)))
 
 abbrev mref : Ty
 mref = tyRef erased mut (pointee (R .written))
-
-abbrev aBool : Value
-aBool = record {
-  row = bool;
-  val = vbool;
-  tells = bool-tells;
-  makes = λ 𝓤 H A W. bool-makes 𝓤 H A W;
-  typed = λ 𝓤 H A W. bool-lawful 𝓤 H A W .typed;
-}
 
 abbrev aFound : Value
 aFound = aStruct found.the-type F′.the-laws F′.the-plain F′.lowers

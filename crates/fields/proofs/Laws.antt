@@ -11,8 +11,11 @@ use native.Mathlib.Omega.{arith}
 use lib.ListN.{length, getD}
 use borrow.Author.Tests.{leb-true}
 use Rattle.fields.specs.Fields.{le, leBytes, fits}
+use denote.Ref.{now}
 use Rattle.fields.specs.Cursors.{moved, taken, runAt, putAt}
+use Rattle.fields.specs.Holders.{readOn, writePlace, wrote}
 use Rattle.fields.specs.declared.Cursor.{Cursor}
+use Rattle.fields.specs.declared.writing.Writer.{Writer}
 use Rattle.fields.proofs.Widths.{leBytes-length}
 use Rattle.fields.proofs.Put.{put-length, put-before, put-behind, le-before, le-behind, put-part, put-le}
 use Rattle.fields.proofs.Cursored.{either, fitted}
@@ -53,3 +56,11 @@ pub run-back : (v s : List ℕ) (c : Cursor) → fits (length v) s (c .at) ≡ t
 run-back v s c e =
     let room : c .at ≤ length s = omega (arith, leb-true (c .at + length v) (length s) e) in
     rw (same-length v s c, e) (put-part v s (c .at) room)
+
+-- what a writer puts, a reader of the same bytes at the same place reads, and both stand behind it
+pub written-read : {A : Type 0} (n x : ℕ) (value : ℕ → Cursor → A) (nothing : A) (w : Writer) → x < 256 ^ n → fits n (now (w .buffer)) (w .at) ≡ true
+    → (taken n (value (le n (now (wrote (leBytes n x) w .buffer)) (w .at))) nothing (now (wrote (leBytes n x) w .buffer)) (writePlace w) ≡ value x (moved n (writePlace w)))
+    × (readOn n (record { bytes = wrote (leBytes n x) w .buffer; at = w .at }) .at ≡ wrote (leBytes n x) w .at)
+written-read n x value nothing w small e =
+    let s = now (w .buffer) in
+    (number-back n x value nothing s (writePlace w) small e, rw (same-length (leBytes n x) s (writePlace w), leBytes-length n x))

@@ -4,7 +4,7 @@
 // leaves the cursor where it was. No function asks anything of its caller. `Reader` and `Writer` hold the slice and the place in one:
 //
 //     let mut input = Reader::new(bytes);        let mut to = Writer::new(&mut bytes);
-//     let length = input.u32();                  to.put_u32(length);
+//     let length = input.u32().or_zero();        to.put_u32(length);
 //     let name = input.take(8);                  to.put(name);
 //     let all_else = input.rest();
 //

@@ -10,5 +10,5 @@ pub mod Puts
 pub mod ReadParts
 pub mod Spent
 pub mod Takes
-pub mod Types
+pub mod Values
 pub mod Widths

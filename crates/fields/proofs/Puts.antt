@@ -32,7 +32,7 @@ use Rattle.byhand.proofs.Calls as BC
 use Rattle.byhand.proofs.CallsLent.{lendEnded, calls-lent}
 use Rattle.byhand.proofs.Locals.{full, leaves}
 use Rattle.fields.proofs.Cursor.Laws as Cu′
-use Rattle.fields.proofs.Types.{aCursor, cursor-good, cursor-fits}
+use Rattle.fields.proofs.Values.{aCursor, cursor-good, cursor-fits}
 use Rattle.fields.proofs.Widths.{leBytes-length}
 use Rattle.fields.proofs.writing.Writer as T
 use Rattle.fields.proofs.writing.Writer.Laws as T′

@@ -24,7 +24,7 @@ use Rattle.fields.specs.Holders.{readPlace, readOn}
 use Rattle.fields.specs.declared.Cursor.{Cursor}
 use Rattle.fields.specs.declared.reading.Reader.{Reader}
 use Rattle.fields.proofs.ReadParts.{row, Own, OwnBytes, reader-fits, reader-typed, reader-apart, at-place, reader-moved}
-use Rattle.fields.proofs.Types.{aCursor, cursor-good, cursor-fits}
+use Rattle.fields.proofs.Values.{aCursor, cursor-good, cursor-fits}
 use Rattle.fields.proofs.Cursor.Laws as Cu′
 use Rattle.fields.proofs.after as after-of
 use Rattle.fields.proofs.after.Symbol.{name as #after}

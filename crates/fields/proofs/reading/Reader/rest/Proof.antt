@@ -12,7 +12,7 @@ use Rattle.byhand.proofs.Locals.{full, leaves}
 use Rattle.fields.specs.Holders.{readPlace}
 use Rattle.fields.specs.declared.reading.Reader.{Reader}
 use Rattle.fields.proofs.ReadParts.{Own, OwnBytes, Known, reader-fits, reader-typed, reader-apart}
-use Rattle.fields.proofs.Types.{aCursor, cursor-good}
+use Rattle.fields.proofs.Values.{aCursor, cursor-good}
 use Rattle.fields.proofs.Cursor.Laws as Cu′
 use Rattle.fields.proofs.reading.Reader as T
 use Rattle.fields.proofs.reading.Reader.Laws as T′

@@ -11,7 +11,7 @@ use Rattle.fields.specs.declared.Cursor.{Cursor}
 use Rattle.fields.specs.declared.TakenU64.{TakenU64}
 use Rattle.fields.specs.declared.TakenU64.the-variants.{Value, Nothing}
 use Rattle.fields.proofs.Takes.{Take, After, takes-meets}
-use Rattle.fields.proofs.Types.{aTakenU64}
+use Rattle.fields.proofs.Values.{aTakenU64}
 use Rattle.fields.proofs.after.Symbol as after-def
 use Rattle.fields.proofs.after.Met as after-thm
 use Rattle.fields.proofs.take_u64.Symbol as take-def

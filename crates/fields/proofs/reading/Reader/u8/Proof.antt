@@ -11,7 +11,7 @@ use Rattle.fields.specs.declared.Cursor.{Cursor}
 use Rattle.fields.specs.declared.TakenU8.{TakenU8}
 use Rattle.fields.specs.declared.TakenU8.the-variants.{Value, Nothing}
 use Rattle.fields.proofs.Takes.{Take, After, takes-meets}
-use Rattle.fields.proofs.Types.{aTakenU8}
+use Rattle.fields.proofs.Values.{aTakenU8}
 use Rattle.fields.proofs.after.Symbol as after-def
 use Rattle.fields.proofs.after.Met as after-thm
 use Rattle.fields.proofs.take_u8.Symbol as take-def

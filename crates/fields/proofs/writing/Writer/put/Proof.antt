@@ -14,7 +14,7 @@ use Rattle.byhand.proofs.Calls.{good, slice-at, both}
 use Rattle.byhand.proofs.CallsHeld.{calls-giving}
 use Rattle.fields.proofs.Cursor.Laws as Cu′
 use Rattle.fields.proofs.Puts.{B, Call, Left, walk}
-use Rattle.fields.proofs.Types.{aCursor}
+use Rattle.fields.proofs.Values.{aCursor}
 use Rattle.fields.proofs.writing.Writer as T
 use Rattle.fields.proofs.put_run as run-of
 use Rattle.fields.proofs.put_run.Symbol as run-def

@@ -18,7 +18,7 @@ use Rattle.byhand.proofs.Calls.{good, goes-on}
 use Rattle.byhand.proofs.CallsHeld.{calls-handing}
 use Rattle.byhand.proofs.Locals.{full, leaves}
 use Rattle.fields.proofs.Cursor.Laws as Cu′
-use Rattle.fields.proofs.Types.{aCursor, cursor-good}
+use Rattle.fields.proofs.Values.{aCursor, cursor-good}
 use Rattle.fields.proofs.Spent.{renamed, shares}
 use Rattle.fields.proofs.writing.Writer as T
 use Rattle.fields.proofs.writing.Writer.Laws as T′

@@ -1,12 +1,11 @@
-pub mod Again
 pub mod Calls
 pub mod CallsHeld
 pub mod CallsLent
 pub mod Constants
+pub mod Lending
 pub mod LentHolder
 pub mod LentLocal
 pub mod Locals
 pub mod OfSlice
-pub mod Shared
 pub mod Values
 pub mod Walk

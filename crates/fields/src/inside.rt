@@ -1,9 +1,16 @@
-// For the layers above, where the caller has shown that the field fits: no user needs this module.
+// For the layers above: fields whose caller has shown that they fit, and a bool as a number. No user needs this module.
 ghost use mathlib.Core.Path.{_≡_};
 ghost use mathlib.Core.List.{[], _∷_};
 ghost use Prim.Native.Nat.{_+_, _≤_, _<_};
 ghost use lib.ListN.{length, replicate};
-ghost use Rattle.fields.specs.Fields.{le, leBytes, put};
+ghost use Rattle.fields.specs.Fields.{bitOf, le, leBytes, put};
+
+// Yes is 1, no is 0.
+pub fn bit(yes: bool) -> u64
+    ensures { λ r. ⌜ r ≡ bitOf yes ⌝ }
+{
+    if yes { 1 } else { 0 }
+}
 
 // A byte, widened: its bound goes with it, so that no sum asks for it.
 fn wide(x: u8) -> u32

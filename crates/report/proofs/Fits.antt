@@ -8,7 +8,7 @@ use Prim.Native.String.{String}
 use native.Mathlib.Omega.{arith}
 use lib.Dec.{eqb, lit≤}
 use lib.ListN.{length, take, replicate, length-append, length-take, length-replicate}
-use Rattle.fields.specs.Fields.{pick}
+use Rattle.fields.specs.Fields.{pick, bitOf}
 use Rattle.index.specs.declared.Entry.{Entry}
 use Rattle.index.specs.Insert.{none}
 use Rattle.journal.specs.declared.Answer.{Answer}
@@ -20,7 +20,7 @@ use Rattle.journal.specs.Scan.{scanOf, indexAfter}
 use Rattle.journal.proofs.OpenScans.{index-length}
 use Rattle.report.specs.Text.{letters}
 use Rattle.report.specs.Request.{ruleIn, limitIn, journalIn, requestFault}
-use Rattle.report.specs.Report.{field, digitOf, cutText, countersText, slotText, openLine, entryLine, entryLines, refusedLine, firstLine, scanText, scannedText, reportOf}
+use Rattle.report.specs.Report.{field, cutText, countersText, slotText, openLine, entryLine, entryLines, refusedLine, firstLine, scanText, scannedText, reportOf}
 use Rattle.report.specs.Bounds.{TextFits}
 use Rattle.report.proofs.Spelt.{decimal-most}
 
@@ -58,7 +58,7 @@ counters-most s =
 slot-most : (s : Scan) → Within (slotText s) 143
 unfolding slotText letters
 slot-most s =
-    named " active=" 8 (s .active) refl then named " stale=" 7 (digitOf (s .stale)) refl then named " reset=" 7 (digitOf (s .reset)) refl
+    named " active=" 8 (s .active) refl then named " stale=" 7 (bitOf (s .stale)) refl then named " reset=" 7 (bitOf (s .reset)) refl
     then named " watermark=" 11 (s .watermark) refl then named " boundary=" 10 (s .boundary) refl
 
 newline : Within (letters "\n") 1

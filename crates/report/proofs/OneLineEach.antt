@@ -10,7 +10,7 @@ use native.Mathlib.Omega.{arith}
 use lib.Dec.{eqb}
 use lib.ListN.{length, take}
 use borrow.Author.Tests.{ne-eqb}
-use Rattle.fields.specs.Fields.{pick}
+use Rattle.fields.specs.Fields.{pick, bitOf}
 use Rattle.index.specs.declared.Entry.{Entry}
 use Rattle.journal.specs.declared.Answer.{Answer}
 use Rattle.journal.specs.declared.Answer.the-variants.{Open, Refused}
@@ -19,7 +19,7 @@ use Rattle.journal.specs.declared.Cut.the-variants.{None, Incomplete, Damaged}
 use Rattle.journal.specs.declared.answers.Scan.{Scan}
 use Rattle.report.specs.Text.{letters, decimal}
 use Rattle.report.specs.Request.{requestFault}
-use Rattle.report.specs.Report.{field, digitOf, cutText, countersText, slotText, openLine, entryLine, entryLines, refusedLine, firstLine, scanText, scannedText, reportOf}
+use Rattle.report.specs.Report.{field, cutText, countersText, slotText, openLine, entryLine, entryLines, refusedLine, firstLine, scanText, scannedText, reportOf}
 use Rattle.report.proofs.Spelt.{Digits, none, then, decimal-digits}
 
 -- how many newlines there are
@@ -70,7 +70,7 @@ counters-plain s =
 slot-plain : (s : Scan) → Counts (slotText s) 0
 unfolding slotText letters newlines
 slot-plain s =
-    named " active=" (s .active) refl also named " stale=" (digitOf (s .stale)) refl also named " reset=" (digitOf (s .reset)) refl
+    named " active=" (s .active) refl also named " stale=" (bitOf (s .stale)) refl also named " reset=" (bitOf (s .reset)) refl
     also named " watermark=" (s .watermark) refl also named " boundary=" (s .boundary) refl
 
 -- ---- a line has one

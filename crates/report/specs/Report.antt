@@ -2,11 +2,10 @@
 -- Assumes nothing.
 use Prim.Native.Nat.{ℕ}
 use Prim.Native.String.{String}
-use mathlib.Core.Bool.{Bool, true, false}
 use mathlib.Core.List.{List, [], _∷_, _++_}
 use lib.Dec.{eqb}
 use lib.ListN.{take, replicate}
-use Rattle.fields.specs.Fields.{pick}
+use Rattle.fields.specs.Fields.{pick, bitOf}
 use Rattle.index.specs.declared.Entry.{Entry}
 use Rattle.index.specs.Insert.{none}
 use Rattle.journal.specs.declared.Answer.{Answer}
@@ -22,11 +21,6 @@ use Rattle.report.specs.Text.{letters, decimal}
 unfoldable pub field : (name : String) (x : ℕ) → List ℕ
 field name x = letters name ++ decimal x
 
--- yes is 1, no is 0
-abbrev pub digitOf : Bool → ℕ
-digitOf true = 1
-digitOf false = 0
-
 -- what a scan cuts
 unfoldable pub cutText : Cut → List ℕ
 cutText None = letters " cut=none"
@@ -38,7 +32,7 @@ unfoldable pub countersText : Scan → List ℕ
 countersText s = field "open end=" (s .end) ++ field " records=" (s .count) ++ field " dead=" (s .dead) ++ field " sender=" (s .sender) ++ field " target=" (s .target) ++ field " generation=" (s .generation)
 
 unfoldable pub slotText : Scan → List ℕ
-slotText s = field " active=" (s .active) ++ field " stale=" (digitOf (s .stale)) ++ field " reset=" (digitOf (s .reset)) ++ field " watermark=" (s .watermark) ++ field " boundary=" (s .boundary)
+slotText s = field " active=" (s .active) ++ field " stale=" (bitOf (s .stale)) ++ field " reset=" (bitOf (s .reset)) ++ field " watermark=" (s .watermark) ++ field " boundary=" (s .boundary)
 
 unfoldable pub openLine : Scan → List ℕ
 openLine s = countersText s ++ slotText s ++ cutText (s .cut) ++ letters "\n"

@@ -2,21 +2,15 @@
 ghost use mathlib.Core.Path.{_≡_};
 ghost use Prim.Native.Nat.{min};
 ghost use lib.ListN.{take};
-ghost use Rattle.report.specs.Report.{digitOf, cutText, countersText, slotText, openLine, entryLine, entryLines, refusedLine, firstLine};
+ghost use Rattle.report.specs.Report.{cutText, countersText, slotText, openLine, entryLine, entryLines, refusedLine, firstLine};
 ghost use Rattle.report.specs.Steps.{Wrote};
 use crate::words::put_field;
 use crate::words::put_run;
+use fields::inside::bit;
 use index::Entry;
 use journal::Answer;
 use journal::Cut;
 use journal::answers::Scan;
-
-// Yes is 1, no is 0.
-fn digit(yes: bool) -> u64
-    ensures { λ r. ⌜ r ≡ digitOf yes ⌝ }
-{
-    if yes { 1 } else { 0 }
-}
 
 fn put_cut(out: &mut [u8], at: usize, cut: Cut) -> usize
     ensures { λ r. ⌜ Wrote at (cutText cut) (now (out .entry)) r (now (out .exit)) ⌝ }
@@ -45,8 +39,8 @@ fn put_slot(out: &mut [u8], at: usize, found: Scan) -> usize
     ensures { λ r. ⌜ Wrote at (slotText found) (now (out .entry)) r (now (out .exit)) ⌝ }
 {
     let a = put_field(out, at, b" active=", found.active as u64);
-    let b = put_field(out, a, b" stale=", digit(found.stale));
-    let c = put_field(out, b, b" reset=", digit(found.reset));
+    let b = put_field(out, a, b" stale=", bit(found.stale));
+    let c = put_field(out, b, b" reset=", bit(found.reset));
     let d = put_field(out, c, b" watermark=", found.watermark);
     put_field(out, d, b" boundary=", found.boundary)
 }

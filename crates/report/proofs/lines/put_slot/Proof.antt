@@ -19,8 +19,8 @@ put-field-requires c κs = search needs
 slice-aggregate-put-field-2 : tie.Need-slice-aggregate-put-field-2
 slice-aggregate-put-field-2 c = search needs
 
-digit-requires : tie.Need-digit-requires
-digit-requires c κs = search needs
+bit-requires : tie.Need-bit-requires
+bit-requires c κs = search needs
 
 put-field-requires-2 : tie.Need-put-field-requires-2
 put-field-requires-2 c κs = search needs
@@ -28,8 +28,8 @@ put-field-requires-2 c κs = search needs
 slice-aggregate-put-field-3 : tie.Need-slice-aggregate-put-field-3
 slice-aggregate-put-field-3 c = search needs
 
-digit-requires-2 : tie.Need-digit-requires-2
-digit-requires-2 c κs = search needs
+bit-requires-2 : tie.Need-bit-requires-2
+bit-requires-2 c κs = search needs
 
 put-field-requires-3 : tie.Need-put-field-requires-3
 put-field-requires-3 c κs = search needs
@@ -51,7 +51,7 @@ same-length c = search needs
 
 returns : tie.Need-returns
 unfolding slotText field letters
-returns c = rw (← c .before .before .before .before .before .before .before .before .before .before .before .before .before .before .before .before .before .before .before .digit .ensures, ← c .before .before .before .before .before .before .before .before .before .before .before .before .before .digit2 .ensures) (wrote-both _ _ _ _ _ _ _ _ (wrote-both _ _ _ _ _ _ _ _ (wrote-both _ _ _ _ _ _ _ _ (wrote-both _ _ _ _ _ _ _ _ (c .before .before .before .before .before .before .before .before .before .before .before .before .before .before .before .before .before .before .before .before .before .before .before .before .put-field .ensures) (c .before .before .before .before .before .before .before .before .before .before .before .before .before .before .before .before .before .before .put-field2 .ensures)) (c .before .before .before .before .before .before .before .before .before .before .before .before .put-field3 .ensures)) (c .before .before .before .before .before .before .before .put-field4 .ensures)) (c .before .before .put-field5 .ensures))
+returns c = rw (← c .before .before .before .before .before .before .before .before .before .before .before .before .before .before .before .before .before .before .before .bit .ensures, ← c .before .before .before .before .before .before .before .before .before .before .before .before .before .bit2 .ensures) (wrote-both _ _ _ _ _ _ _ _ (wrote-both _ _ _ _ _ _ _ _ (wrote-both _ _ _ _ _ _ _ _ (wrote-both _ _ _ _ _ _ _ _ (c .before .before .before .before .before .before .before .before .before .before .before .before .before .before .before .before .before .before .before .before .before .before .before .before .put-field .ensures) (c .before .before .before .before .before .before .before .before .before .before .before .before .before .before .before .before .before .before .put-field2 .ensures)) (c .before .before .before .before .before .before .before .before .before .before .before .before .put-field3 .ensures)) (c .before .before .before .before .before .before .before .put-field4 .ensures)) (c .before .before .put-field5 .ensures))
 
 pub put-slot-spec : {M : Type 1} → statement M
 put-slot-spec =
@@ -61,10 +61,10 @@ put-slot-spec =
     cast-put-field
     put-field-requires
     slice-aggregate-put-field-2
-    digit-requires
+    bit-requires
     put-field-requires-2
     slice-aggregate-put-field-3
-    digit-requires-2
+    bit-requires-2
     put-field-requires-3
     slice-aggregate-put-field-4
     put-field-requires-4

@@ -9,7 +9,7 @@ use denote.Triple.Walked.{stay-ref, goes-ref}
 use Rattle.fields.specs.Cursors.{after, putAt}
 use Rattle.fields.specs.Holders.{writePlace, wrote}
 use Rattle.fields.specs.declared.writing.Writer.{Writer}
-use Rattle.byhand.proofs.Again.{LentAgain, lends-again, comes-back}
+use Rattle.byhand.proofs.Lending.{LentAgain, lends-again, comes-back}
 use Rattle.byhand.proofs.Calls.{good, slice-at, both}
 use Rattle.byhand.proofs.CallsHeld.{calls-giving}
 use Rattle.fields.proofs.Cursor.Laws as Cu′

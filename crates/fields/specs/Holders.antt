@@ -14,6 +14,7 @@ use Rattle.fields.specs.declared.writing.Writer.{Writer}
 abbrev pub readerOf : RefT (List ℕ) → Reader
 readerOf bytes = record { bytes = bytes; at = 0 }
 
+-- its place, as a cursor
 abbrev pub readPlace : Reader → Cursor
 readPlace r = record { at = r .at }
 
@@ -25,6 +26,7 @@ readOn n r = record { bytes = r .bytes; at = after n (now (r .bytes)) (readPlace
 abbrev pub writerOf : RefT (List ℕ) → Writer
 writerOf buffer = record { buffer = buffer; at = 0 }
 
+-- its place, as a cursor
 abbrev pub writePlace : Writer → Cursor
 writePlace w = record { at = w .at }
 

@@ -19,7 +19,7 @@ fn wide(x: u8) -> u32
     x as u32
 }
 
-pub fn u16_at(s: &[u8], at: usize) -> u16
+pub(crate) fn u16_at(s: &[u8], at: usize) -> u16
     requires { ⌜ at + 2 ≤ length (now s) ⌝ }
     ensures { λ r. ⌜ r ≡ le 2 (now (s .entry)) at ⌝ }
 {
@@ -49,7 +49,7 @@ pub fn put_u8_at(out: &mut [u8], at: usize, x: u8)
     out[at] = x;
 }
 
-pub fn put_u16_at(out: &mut [u8], at: usize, x: u16)
+pub(crate) fn put_u16_at(out: &mut [u8], at: usize, x: u16)
     requires { ⌜ at + 2 ≤ length (now out) ⌝ }
     ensures { λ _. ⌜ now (out .exit) ≡ put (leBytes 2 x) (now (out .entry)) at ⌝ }
 {

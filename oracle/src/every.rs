@@ -156,7 +156,7 @@ fn rereads() -> impl Iterator<Item = Vec<u8>> {
     one(record_1(), 7).chain(one(record_5(), 8))
 }
 
-/// What the library answers: scans and re-reads.
+/// Those that the library answers: scans and re-reads.
 pub fn library() -> impl Iterator<Item = Vec<u8>> {
     scans().chain(rereads())
 }

@@ -133,12 +133,14 @@ pub fn request(numbers: &mut Numbers, turn: usize) -> Vec<u8> {
     of(operation(turn), numbers, turn)
 }
 
-/// The next request of those that the library answers: two scans, then a re-read.
+/// What the library answers, in turn: five scans, two re-reads, and one of each other operation that it has.
+const LIBRARY: [u8; 12] = [SCAN, SCAN, REREAD, RECORD, SCAN, SEAL, SCAN, REREAD, SLOTS, SCAN, CRC, PREFIX];
+
+/// The next request of those that the library answers. A scan's kind of journal goes by the scans before it.
 pub fn library(numbers: &mut Numbers, turn: usize) -> Vec<u8> {
-    match turn % 3 {
-        2 => rereads::request(numbers),
-        _ => scans::request(numbers, turn - turn / 3),
-    }
+    let (round, place) = (turn / LIBRARY.len(), turn % LIBRARY.len());
+    let scans = |operations: &[u8]| operations.iter().filter(|operation| **operation == SCAN).count();
+    of(LIBRARY[place], numbers, round * scans(&LIBRARY) + scans(&LIBRARY[..place]))
 }
 
 #[cfg(test)]

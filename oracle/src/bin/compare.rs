@@ -2,7 +2,7 @@
 //! answer to the original's, or to the restated rule where the original can't be asked. Prints how many were compared, by operation, by
 //! refusal and by what was found. A difference ends it: the smallest request found that differs is printed with both answers.
 //!
-//! compare library SEED COUNT COMMAND..: the same with what the library answers, scans and re-reads.
+//! compare library SEED COUNT COMMAND..: the same with what the library answers.
 //!
 //! compare every COMMAND..: every truncation and every change of one byte of a small journal and its parts.
 //! compare every library COMMAND..: the scans and re-reads of them.

@@ -2,8 +2,8 @@
 //! the edges, then damaged journals, then requests of all operations, made from SEED. Prints how many there are of each operation, and of
 //! how many the answer is restated.
 //!
-//! list library SEED COUNT REQUESTS ANSWERS: COUNT requests that the library answers, scans and re-reads, and the original's answers. One
-//! that the original can't be asked is left out.
+//! list library SEED COUNT REQUESTS ANSWERS: COUNT requests that the library answers, and the original's answers. One that the
+//! original can't be asked is left out.
 //!
 //! list check FOLDER: writes inputs of the check program as FOLDER/NAME.request, and what it must print as FOLDER/NAME.answer.
 

@@ -5,5 +5,6 @@ pub mod Records
 pub mod Journals
 pub mod Answers
 pub mod Refuser
+pub mod HostWrites
 pub mod Hosts
 pub mod Checks

@@ -2,3 +2,4 @@
 typedef unsigned char uint8_t;
 typedef unsigned int uint32_t;
 typedef unsigned long uint64_t;
+#define UINT64_MAX 0xFFFFFFFFFFFFFFFFul

@@ -112,7 +112,7 @@ static int make(const char *path) {
 
 /* ---- reading */
 
-/* Tail: what a loss of power leaves is cut, and nothing else. One record, since each one is on stable storage before the next is written. */
+/* Tail: what a loss of power leaves is cut, and nothing else. One record: each is on stable storage before the next is written. */
 static struct bulvreden_found scan(size_t length) {
     return bulvreden_scan(journal, length, BULVREDEN_TAIL, 1, BODY_LIMIT, entries, MESSAGES);
 }
@@ -200,7 +200,7 @@ static int cut(int file, const struct bulvreden_found *now) {
     return ftruncate(file, (off_t)now->end) == 0 && fsync(file) == 0 ? 0 : wrong("the file can't be cut");
 }
 
-/* Whether one more message can be filed: the next scan must find room in its index, and a generation after those of the record and the
+/* Whether no more message can be filed. The next scan must find room in its index, and a generation after those of the record and the
  * slot. */
 static int full(const struct bulvreden_found *now) {
     return now->count == MESSAGES || now->generation > UINT64_MAX - 2 || now->sender == UINT64_MAX;

@@ -307,7 +307,7 @@ fn open(path: &Path, journal: &mut [u8]) -> Result<File, Failed> {
 
 // ---- reading
 
-/// Tail: what a loss of power leaves is cut, and nothing else. One record, since each one is on stable storage before the next is written.
+/// Tail: what a loss of power leaves is cut, and nothing else. One record: each is on stable storage before the next is written.
 fn scan(journal: &[u8], entries: &mut [Entry]) -> Result<Found, Failed> {
     library::scan(journal, library::TAIL, 1, BODY_LIMIT, entries)
 }
@@ -412,7 +412,7 @@ fn cut(file: &File, now: &Found) -> Result<(), Failed> {
     file.set_len(now.end).and_then(|()| file.sync_all()).map_err(wrong("the file can't be cut"))
 }
 
-/// Whether one more message can't be filed: the next scan must find room in its index, and a generation after those of the record and the
+/// Whether no more message can be filed. The next scan must find room in its index, and a generation after those of the record and the
 /// slot.
 fn full(now: &Found) -> bool {
     now.count == MESSAGES as u64 || now.generation > u64::MAX - 2 || now.sender == u64::MAX

@@ -90,6 +90,15 @@ pub(crate) fn walk(journal: &[u8], max_body: u64, rule: DamageRule, room: usize)
     Ok(Walk { taken, full })
 }
 
+/// Walks over the records with no index and no durable end: how many bodies read, and where the records end. For measuring.
+pub(crate) fn count(journal: &[u8], max_body: u64, rule: DamageRule) -> Option<(u64, u64)> {
+    let mut records = journal.get(DATA_START as usize..)?;
+    let mut count = 0;
+    let take = |_, _, body: &[u8]| decode_body(body).map(|_| count += 1);
+    let (end, _) = scan_records(&mut records, DATA_START, journal.len() as u64, max_body, rule, 0, take).ok()?;
+    Some((count, end))
+}
+
 /// What a reader takes.
 pub(crate) enum Field<'a> {
     Number(u64),

@@ -8,6 +8,7 @@ pub mod check;
 pub mod checking;
 pub mod comparison;
 mod cursors;
+pub mod direct;
 mod entries;
 pub mod edges;
 pub mod every;

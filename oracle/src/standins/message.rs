@@ -1,11 +1,14 @@
-//! For `ironfix_core::message`: the type code, by the rule of this port: 1 to 8 bytes, each 0x21 to 0x7E.
+//! For `ironfix_core::message`: the type code, by the rule of this port: 1 to 8 bytes, each 0x21 to 0x7E. Like the original's own, it is
+//! held in place, not on the heap.
 
 /// The longest type code, in bytes.
 pub const MSG_TYPE_MAX_LEN: usize = 8;
 
 #[derive(Debug, Clone, PartialEq, Eq)]
 pub struct MsgType {
-    code: String,
+    /// The code's bytes, and zeros behind them.
+    bytes: [u8; MSG_TYPE_MAX_LEN],
+    length: usize,
 }
 
 /// A code that the rule refuses.
@@ -14,16 +17,15 @@ pub struct BadCode;
 
 impl MsgType {
     pub fn new(code: &str) -> Result<Self, BadCode> {
-        let good = !code.is_empty()
-            && code.len() <= MSG_TYPE_MAX_LEN
-            && code.bytes().all(|byte| (0x21..=0x7E).contains(&byte));
-        match good {
-            true => Ok(Self { code: code.to_string() }),
-            false => Err(BadCode),
+        if code.is_empty() || !code.bytes().all(|byte| (0x21..=0x7E).contains(&byte)) {
+            return Err(BadCode);
         }
+        let mut bytes = [0; MSG_TYPE_MAX_LEN];
+        bytes.get_mut(..code.len()).ok_or(BadCode)?.copy_from_slice(code.as_bytes());
+        Ok(Self { bytes, length: code.len() })
     }
 
     pub fn as_str(&self) -> &str {
-        &self.code
+        std::str::from_utf8(&self.bytes[..self.length]).unwrap_or_default()
     }
 }

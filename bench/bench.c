@@ -1,7 +1,7 @@
 /* The driver: measures the port, libhost.a, against the original Rust, liboriginal.a (bench/original), on the same inputs.
  *
- *   bench                  a line a row: name, bytes and messages of one operation, then nanoseconds of one operation: the least and the
- *                          median of five for the port, and the same for the original, 0 where it isn't there
+ *   bench                  a line a row: name, bytes and messages of one operation, and its nanoseconds, the least of five samples: for the
+ *                          port, and for the original, 0 where it isn't there
  *   bench once SIDE ROW N  does a row's operation N times (SIDE 0 the port, 1 the original), with no clock: for a counter of instructions.
  *                          A journal has at most 1,000 records then
  *
@@ -274,12 +274,7 @@ static double time_of(const struct side *side, const struct row *row, uint64_t t
     return (1e9 * (double)(end.seconds - start.seconds) + (double)(end.nanoseconds - start.nanoseconds)) / (double)times;
 }
 
-/* Puts a time into its place among those before it. */
-static void put(double *sorted, int count, double time) {
-    int i = count;
-    for (; i > 0 && sorted[i - 1] > time; i--) sorted[i] = sorted[i - 1];
-    sorted[i] = time;
-}
+static double less(double one, double other) { return one < other ? one : other; }
 
 /* So many operations that the port takes 10 ms for them: twice as many until it does. Both sides are warm then. */
 static uint64_t enough(const struct row *row) {
@@ -291,16 +286,14 @@ static uint64_t enough(const struct row *row) {
 
 static void measure(const struct row *row) {
     uint64_t times = enough(row), one, other;
-    double mine[SAMPLES], theirs[SAMPLES] = {0};
+    double mine = 1e18, theirs = has_other(row) ? 1e18 : 0;
     for (int i = 0; i < SAMPLES; i++) {
-        put(mine, i, time_of(&port, row, times, &one));
+        mine = less(mine, time_of(&port, row, times, &one));
         if (!has_other(row)) continue;
-        put(theirs, i, time_of(&original, row, times, &other));
+        theirs = less(theirs, time_of(&original, row, times, &other));
         if (one != other) stop(row->name);
     }
-    uint64_t messages = of_journal(row) ? row->size : 1;
-    printf("%s %lu %lu %.3f %.3f %.3f %.3f\n", row->name, bytes_of(row), messages, mine[0], mine[SAMPLES / 2], theirs[0],
-           theirs[SAMPLES / 2]);
+    printf("%s %lu %lu %.3f %.3f\n", row->name, bytes_of(row), of_journal(row) ? row->size : 1, mine, theirs);
 }
 
 static void make_entries(uint64_t count) {

@@ -1,5 +1,5 @@
-# Prints the table: from the counts (row, N, instructions at N and 2N for the port, the same for the original) and the times that the driver
-# wrote (bench.c says how). Status 1 where the port's scan grows 12 times or more from 10,000 to 100,000 records.
+# Prints the table: from the counts (row, N, instructions at N and 2N for the port, the same for the original) and the times that five runs of
+# the driver wrote (bench.c says how). Status 1 where the port's scan grows 12 times or more from 10,000 to 100,000 records.
 
 BEGIN {
     label["crc-64"] = "CRC-32 of 64 bytes"
@@ -34,25 +34,42 @@ FILENAME ~ /counts$/ {
     next
 }
 
-FNR == 1 {
-    print "| | port | original | ratio (of medians) | instructions, port | instructions, original |"
-    print "|---|---|---|---|---|---|"
+# Keeps a row's times in order, from the least on.
+function keep(times, name, count, ns) {
+    for (; count > 0 && times[name, count] > ns; count--) times[name, count + 1] = times[name, count]
+    times[name, count + 1] = ns
 }
 
 {
-    ratio = $6 == 0 ? "-" : sprintf("%.2f (%.2f)", $6 / $4, $7 / $5)
-    if ($6 == 0) left = left (left == "" ? "" : ", ") label[$1]
-    printf "| %s | %s | %s | %s | %s | %s |\n", label[$1], speed($1, $2, $3, $4), speed($1, $2, $3, $6), ratio,
-        counted($1, $2, $3, mine[$1]), counted($1, $2, $3, theirs[$1])
-    port[$1] = $4
-    original[$1] = $6
+    if (!($1 in runs)) order[++rows] = $1
+    bytes[$1] = $2
+    messages[$1] = $3
+    keep(port, $1, runs[$1], $4)
+    keep(original, $1, runs[$1], $5)
+    runs[$1]++
+}
+
+function ratio(name,    middle) {
+    middle = int((runs[name] + 1) / 2)
+    if (original[name, 1] == 0) return "-"
+    return sprintf("%.2f (%.2f)", original[name, 1] / port[name, 1], original[name, middle] / port[name, middle])
+}
+
+function show(name) {
+    printf "| %s | %s | %s | %s | %s | %s |\n", label[name], speed(name, bytes[name], messages[name], port[name, 1]),
+        speed(name, bytes[name], messages[name], original[name, 1]), ratio(name), counted(name, bytes[name], messages[name], mine[name]),
+        counted(name, bytes[name], messages[name], theirs[name])
+    if (original[name, 1] == 0) left = left (left == "" ? "" : "; ") label[name]
 }
 
 END {
-    growth = port["scan-100000"] / port["scan-10000"]
+    print "| | port | original | ratio (of medians) | instructions, port | instructions, original |"
+    print "|---|---|---|---|---|---|"
+    for (i = 1; i <= rows; i++) show(order[i])
+    growth = port["scan-100000", 1] / port["scan-10000", 1]
     printf "\nGrowth of a scan's time from 10,000 to 100,000 records: %.2f times", growth
-    if (original["scan-10000"] > 0) printf "; the original's %.2f times", original["scan-100000"] / original["scan-10000"]
+    if (left == "") printf "; the original's %.2f times", original["scan-100000", 1] / original["scan-10000", 1]
     print ". Asked for: under 12."
-    if (left != "") print "No original to compare with: " left ". The scan against the original with no index is left out too."
+    if (left != "") print "No original to compare with: " left ". The scan against the original with no index is left out."
     exit growth >= 12
 }

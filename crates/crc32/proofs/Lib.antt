@@ -1,5 +1,5 @@
-pub mod Xor
-pub mod Register
+pub mod Bound
 pub mod Entries
 pub mod Joined
-pub mod Bound
+pub mod Register
+pub mod Xor

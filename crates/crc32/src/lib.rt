@@ -1,4 +1,4 @@
-// CRC-32 (IEEE 802.3), as zlib, gzip and PNG have it: a byte at a time, by a table of 256 entries.
+// CRC-32 (IEEE 802.3), as zlib, gzip and PNG have it: a byte at a time, by a table of 256 entries in read-only memory.
 //
 //     crc32(b"123456789")                        0xCBF4_3926
 //     resume(crc32(b"12345"), b"6789")           the same: bytes in two parts
@@ -8,25 +8,32 @@
 ghost use mathlib.Core.Path.{_≡_};
 ghost use Rattle.crc32.specs.Crc.{crcFrom, crcOf, crcOn};
 
-pub mod inside;
 mod table;
 
-use crate::inside::ONES;
+use crate::table::entry;
 
-// The register after the bytes, from the register before them. The table is stored once a call, not once a byte.
+// The register at the start, and what the register at the end is complemented by.
+const ONES: u32 = 0xffff_ffff;
+
+// The register after the bytes, from the register before them.
 pub fn update(state: u32, bytes: &[u8]) -> u32
     ensures { λ r. ⌜ r ≡ crcFrom state (now (bytes .entry)) ⌝ }
 {
-    let table = inside::entries();
-    inside::run(&table, state, bytes)
+    let mut c = state;
+    let mut i = 0;
+    while 0 < bytes.len() - i {
+        let k = (c ^ (bytes[i] as u32)) & 0xff;
+        c = (c >> 8) ^ entry(k);
+        i += 1;
+    }
+    c
 }
 
 // The CRC-32 of the bytes.
 pub fn crc32(bytes: &[u8]) -> u32
     ensures { λ r. ⌜ r ≡ crcOf (now (bytes .entry)) ⌝ }
 {
-    let table = inside::entries();
-    inside::sum(&table, bytes)
+    update(ONES, bytes) ^ ONES
 }
 
 // From the CRC-32 of some bytes, that of the same with more bytes after them.

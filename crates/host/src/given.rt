@@ -1,6 +1,5 @@
 // What a host hands in, as the layers below take it.
 ghost use mathlib.Core.Path.{_≡_};
-ghost use mathlib.Core.List.{_∷_};
 ghost use Rattle.host.specs.Writing.{isRecordKind, kindBy, lettersBy, codeBy, nanosecondsBy, headerBy, isYesNo, slotBy, imagesBy};
 use crate::Code;
 use crate::Counters;

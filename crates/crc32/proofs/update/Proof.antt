@@ -1,4 +1,4 @@
--- `crc32::inside::run` meets its contract. The loop's invariant: the register now, sent through the bytes that are left, comes to what the first register comes to
+-- `crc32::update` meets its contract. The loop's invariant: the register now, sent through the bytes that are left, comes to what the first register comes to
 -- through all of them. The measure is how many are left.
 -- Assumes nothing.
 use mathlib.Core.Path.{_≡_, refl, sym, ap, ap₂, _∙_}
@@ -12,9 +12,8 @@ use lib.Seq.{drop-cons}
 use borrow.Author.Needs.{needs}
 use Rattle.crc32.specs.Crc.{next, crcFrom}
 use Rattle.crc32.proofs.Register.{next-split}
-use Rattle.crc32.proofs.Entries.{entry}
-use Rattle.crc32.proofs.inside.run.Statement.{statement}
-use Rattle.crc32.proofs.inside.run.Tie as tie
+use Rattle.crc32.proofs.update.Statement.{statement}
+use Rattle.crc32.proofs.update.Tie as tie
 
 -- one turn: the byte at i goes into the register by way of the table's entry r
 turn : (s : List ℕ) (c i r : ℕ) → i < length s → getD s i 0 < 2 ^ 8 → r ≡ next 0 (bitAnd (bitXor c (getD s i 0)) 255)
@@ -31,10 +30,10 @@ unfolding crcFrom
 done s c i h = ap (crcFrom c) (drop-of-length-le s h)
 
 abbrev Inv-loop : tie.InvT-loop
-Inv-loop table state bytes c₀ i₀ c i = (i ≤ length bytes) × (crcFrom c (drop i bytes) ≡ crcFrom state bytes)
+Inv-loop state bytes c₀ i₀ c i = (i ≤ length bytes) × (crcFrom c (drop i bytes) ≡ crcFrom state bytes)
 
 abbrev μ-loop : tie.MeasureT-loop
-μ-loop table state bytes c₀ i₀ c i = length bytes - i
+μ-loop state bytes c₀ i₀ c i = length bytes - i
 
 loop-holds : tie.Need-loop-holds Inv-loop μ-loop
 loop-holds c = (search needs, refl)
@@ -46,20 +45,14 @@ shared-slice-read-k : tie.Need-shared-slice-read-k Inv-loop μ-loop
 shared-slice-read-k c = search needs
 
 cast-k : tie.Need-cast-k Inv-loop μ-loop
-cast-k c = omega (arith, c .shared-slice-known .given (c .before .before .loop .i))
+cast-k c = omega (arith, c .shared-slice-known2 .given (c .before .before .loop .i))
 
--- the index, once the byte is read
-abbrev index : tie.After-shared-slice-known Inv-loop μ-loop → ℕ
-index c = bitXor (c .before .before .loop .c) (getD (c .before .before .before .args .bytes .now) (c .before .before .loop .i) 0)
+-- what the byte is sent through, once it is read
+abbrev sent : tie.After-shared-slice-known2 Inv-loop μ-loop → ℕ
+sent c = bitXor (c .before .before .loop .c) (getD (c .before .before .before .before .args .bytes .now) (c .before .before .loop .i) 0)
 
-cast-k-2 : tie.Need-cast-k-2 Inv-loop μ-loop
-cast-k-2 c = omega (arith, mask-lt (index c) 8)
-
-mul-c : tie.Need-mul-c Inv-loop μ-loop
-mul-c c = omega (arith, mask-lt (index c) 8)
-
-element-copy-out-c : tie.Need-element-copy-out-c Inv-loop μ-loop
-element-copy-out-c c = omega (arith, mask-lt (index c) 8)
+entry-requires : tie.Need-entry-requires Inv-loop μ-loop
+entry-requires c κs = mask-lt (sent c) 8
 
 add-i : tie.Need-add-i Inv-loop μ-loop
 add-i c = omega arith
@@ -70,20 +63,31 @@ loop-less c = omega arith
 loop-again : tie.Need-loop-again Inv-loop μ-loop
 loop-again c =
     let at-loop = c .before .before .before in
-    let args = at-loop .before .args in
+    let s = at-loop .before .before .args .bytes .now in
     let i = at-loop .loop .i in
-    let k = bitAnd (index (c .before)) 255 in
-    let more : i < length (args .bytes .now) = omega arith in
-    let byte = c .before .shared-slice-known .given i .fits in
-    let row = entry (args .table .now) (at-loop .before .pre) k (mask-lt (index (c .before)) 8) in
-    (omega arith, turn (args .bytes .now) (at-loop .loop .c) i (getD (args .table .now) k 0) more byte row ∙ at-loop .loop .inv .1)
+    let more : i < length s = omega arith in
+    let byte = c .before .shared-slice-known2 .given i .fits in
+    (omega arith, turn s (at-loop .loop .c) i (c .entry .result) more byte (c .entry .ensures) ∙ at-loop .loop .inv .1)
 
 returns : tie.Need-returns Inv-loop μ-loop
 returns c =
-    let bytes = c .before .before .args .bytes .now in
+    let bytes = c .before .before .before .args .bytes .now in
     let i = c .before .loop .i in
     let none : length bytes ≤ i = omega arith in
     sym (done bytes (c .before .loop .c) i none) ∙ c .before .loop .inv .1
 
-pub run-spec : {M : Type 1} → statement M
-run-spec = tie.close (tie.spec Inv-loop μ-loop loop-holds sub-loop shared-slice-read-k cast-k cast-k-2 mul-c element-copy-out-c add-i loop-less loop-again returns)
+pub update-spec : {M : Type 1} → statement M
+update-spec =
+    tie.close
+    (tie.spec
+    Inv-loop
+    μ-loop
+    loop-holds
+    sub-loop
+    shared-slice-read-k
+    cast-k
+    entry-requires
+    add-i
+    loop-less
+    loop-again
+    returns)

@@ -4,6 +4,7 @@
  *                          port, and for the original, 0 where it isn't there
  *   bench once SIDE ROW N  does a row's operation N times (SIDE 0 the port, 1 the original), with no clock: for a counter of instructions.
  *                          A journal has at most 1,000 records then
+ *   bench agreement        takes no time, and prints nothing where both sides agree
  *
  * Before a clock is read each answer of one side is held to the other's, and in each timed sample a digest of the answers. Where they
  * differ the status is 2. With STANDIN defined (bench/standin.c) the original's side is there for CRC-32 alone. */

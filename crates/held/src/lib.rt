@@ -26,8 +26,8 @@ pub struct Inserted {
     pub entries: [Entry; 1024],
 }
 
-// As much of the room as there is.
-fn within(room: usize) -> usize
+// As many of the entries as there are.
+pub fn within(room: usize) -> usize
     ensures { λ r. ⌜ r ≡ min room 1024 ⌝ }
 {
     if room < 1024 { room } else { 1024 }

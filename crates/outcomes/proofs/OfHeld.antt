@@ -13,3 +13,6 @@ insert = answers value _ (λ κs a. (tt, (tt, (tt, (tt, (tt, tt)))))) (λ κs a 
 
 pub lookup : {M : Type 1} → OneOutcome M held.lookup.ended held.lookup.clauses held.lookup.spec whole
 lookup = answers value _ (λ κs a. (tt, (tt, (tt, (tt, tt))))) (λ κs a ws. refl)
+
+pub within : {M : Type 1} → OneOutcome M held.within.ended held.within.clauses held.within.spec whole
+within = answers value _ (λ κs a. (tt, tt)) (λ κs a ws. refl)

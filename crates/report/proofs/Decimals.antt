@@ -10,7 +10,7 @@ use borrow.Author.Tests.{lt-ltb, le-ltb}
 use Rattle.fields.specs.Fields.{pick}
 use Rattle.report.specs.Text.{digits, decimal}
 
-tenth : (n x : ℕ) → x < 10 ^ suc n → x / 10 < 10 ^ n
+pub tenth : (n x : ℕ) → x < 10 ^ suc n → x / 10 < 10 ^ n
 tenth n x h = let e = pow-suc 10 n in omega (arith, h, e)
 
 -- where the digits are enough, one more place changes nothing

@@ -6,13 +6,13 @@ use mathlib.Core.Path.{_≡_, refl, sym, ap, _∙_}
 use mathlib.Core.Bool.{Bool, true, false}
 use mathlib.Core.List.{List, [], _∷_, _++_}
 use Prim.Native.Nat.{ℕ, zero, suc, _+_, _-_, _*_, _/_, _%_, _^_, _≤_, _<_}
-use native.Mathlib.Nat.{pow-suc}
 use native.Mathlib.Omega.{arith}
 use lib.Dec.{ltb, lit≤}
 use lib.ListN.{length, getD, length-append}
 use borrow.Author.Tests.{ltb-true, ltb-false}
 use Rattle.fields.specs.Fields.{pick}
 use Rattle.report.specs.Text.{digits, decimal}
+use Rattle.report.proofs.Decimals.{tenth}
 
 -- ---- how many
 
@@ -52,9 +52,6 @@ spelt-by : (x : ℕ) (b : Bool) → ltb x 10 ≡ b → (l : List ℕ) → (10 �
 unfolding speltFrom
 spelt-by x true e l h = omega (arith, ltb-true x 10 e)
 spelt-by x false e l h = spelt-last 0 l (48 + x % 10) ∙ omega (arith, h (ltb-false x 10 e))
-
-tenth : (n x : ℕ) → x < 10 ^ suc n → x / 10 < 10 ^ n
-tenth n x h = let e = pow-suc 10 n in omega (arith, h, e)
 
 digits-spelt : (n x : ℕ) → x < 10 ^ n → speltFrom 0 (digits n x) ≡ x
 unfolding digits speltFrom

@@ -1,12 +1,12 @@
 // The lines of a report.
 ghost use mathlib.Core.Path.{_≡_};
-ghost use Prim.Native.Nat.{min};
 ghost use lib.ListN.{take};
 ghost use Rattle.report.specs.Report.{cutText, countersText, slotText, openLine, entryLine, entryLines, refusedLine, firstLine};
 ghost use Rattle.report.specs.Steps.{Wrote};
 use crate::words::put_field;
 use crate::words::put_run;
 use fields::inside::bit;
+use held::within;
 use index::Entry;
 use journal::Answer;
 use journal::Cut;
@@ -83,18 +83,11 @@ fn put_entry(out: &mut [u8], at: usize, entry: Entry) -> usize
     put_run(out, c, b"\n")
 }
 
-// As many entries as there are.
-fn in_use(count: usize) -> usize
-    ensures { λ r. ⌜ r ≡ min count 1024 ⌝ }
-{
-    if count < 1024 { count } else { 1024 }
-}
-
 // The first `count` entries, a line each.
 pub(crate) fn put_entries(out: &mut [u8], at: usize, entries: [Entry; 1024], count: usize) -> usize
     ensures { λ r. ⌜ Wrote at (entryLines (take count entries)) (now (out .entry)) r (now (out .exit)) ⌝ }
 {
-    let n = in_use(count);
+    let n = within(count);
     let mut to = at;
     let mut i = 0;
     while i < n {

@@ -3,7 +3,7 @@
  * What the host sees to before a call. Nothing else has to be: every input is answered, by a number where it is refused.
  *
  *   Alignment   A pointer to entries is aligned as struct bulvreden_entry is; bytes stand anywhere.
- *   Length      So many bytes, or entries, are there as the length says, and all are initialized. Half the address space is not passed.
+ *   Length      So many bytes, or entries, are there as the length says, and all are initialized. Together they have fewer than 2^63 bytes.
  *   Null        A null pointer comes with length 0 alone.
  *   Overlap     What is lent to be written overlaps nothing else that is lent to the same call.
  *   Time        What is lent does not change during the call: no other thread, no interrupt, no device writes it. The library keeps no

@@ -15,52 +15,23 @@ struct moment {
 
 int clock_gettime(int clock, struct moment *now);
 int printf(const char *text, ...);
-void *memset(void *to, int byte, size_t count);
 
 static uint8_t journal[PREFIX + MOST * RECORD];
 static struct bulvreden_entry entries[MOST];
-static uint32_t table[256];
-
-static void make_table(void) {
-    for (uint32_t i = 0; i < 256; i++) {
-        uint32_t c = i;
-        for (int k = 0; k < 8; k++) c = c & 1 ? 0xEDB88320u ^ (c >> 1) : c >> 1;
-        table[i] = c;
-    }
-}
-
-static uint32_t crc(const uint8_t *from, size_t count) {
-    uint32_t c = 0xFFFFFFFFu;
-    for (size_t i = 0; i < count; i++) c = table[(c ^ from[i]) & 255] ^ (c >> 8);
-    return ~c;
-}
-
-static uint8_t *put(uint8_t *to, uint64_t x, int bytes) {
-    for (int i = 0; i < bytes; i++) *to++ = (uint8_t)(x >> (8 * i));
-    return to;
-}
 
 static void make_prefix(void) {
-    memset(journal, 0, PREFIX);
-    uint8_t *to = journal;
-    for (const char *letter = "IRFXJRNL"; *letter; letter++) *to++ = (uint8_t)*letter;
-    put(put(journal + 8, 4, 2) + 2, 1700000000, 8);
-    put(put(journal + 24, 1, 8), 1, 8);
-    put(journal + 40, crc(journal, 40), 4);
-    for (uint64_t slot = 0; slot < 2; slot++) {
-        uint8_t *image = journal + 4096 * (slot + 1);
-        put(put(put(put(image, slot + 1, 8), 1, 8), 1, 8), PREFIX, 8);
-        put(image + 48, crc(image, 48), 4);
-    }
+    struct bulvreden_counters first = {1, 1, 1, PREFIX, 0, 0};
+    struct bulvreden_made made = {1700000000, 0, 1, 1};
+    bulvreden_prefix(journal, PREFIX, made, bulvreden_fresh_slots(first).slots);
 }
 
-/* A record of kind 1, with the code D. */
+/* A plain record with the code D. What isn't written as it should be is seen by the scan. */
 static uint8_t *make_record(uint8_t *to, uint64_t number) {
-    uint8_t *body = to + 12;
-    uint8_t *frame = put(put(put(put(body, 1, 1), number, 8), 1, 1), 'D', 1);
+    static const struct bulvreden_code code = {1, {'D'}};
+    uint8_t frame[FRAME];
     for (int i = 0; i < FRAME; i++) frame[i] = (uint8_t)(number + (uint64_t)i);
-    uint32_t length = 11 + FRAME;
-    put(put(put(to, length, 4), ~length, 4), crc(body, length), 4);
+    bulvreden_write(to, RECORD, BULVREDEN_PLAIN, 0, number, code, frame, FRAME, FRAME);
+    bulvreden_seal(to, RECORD, 0);
     return to + RECORD;
 }
 
@@ -95,7 +66,6 @@ static double once(size_t length, uint64_t records, uint64_t *count, uint64_t *d
 int main(void) {
     static const uint64_t sizes[4] = {1000, 3000, 10000, 30000};
     static const char *const names[3] = {"ascending", "every tenth again, at once", "every tenth again, at the end"};
-    make_table();
     make_prefix();
     for (int way = 0; way < 3; way++) {
         double least[4];

@@ -10,7 +10,8 @@
  *               pointer when it returns, has no memory of its own, and takes no lock.
  *   Bools       There are none: yes is the number 1, no is 0, and any other number is refused with 28.
  *
- * The file, its lock, and the order in which its parts reach stable storage are the host's too.
+ * The file, its lock, and the order in which its parts reach stable storage are the host's too. Of the C library it wants memcpy and
+ * memset, and nothing else. It is x86-64 code, for the System V calling convention.
  *
  * Results come back by value. In each, number is 0 where the call did what it says, else the refusal; then place is the byte of the
  * journal that the refusal names, 0 where it names none, and every other field is 0. A refusal changes no lent byte; a refused scan

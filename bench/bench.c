@@ -1,13 +1,14 @@
-/* The driver: measures the port, libhost.a, against the original Rust, liboriginal.a (bench/original), on the same inputs.
+/* The driver: measures the port, libhost.a, against the original Rust, liboriginal.a (bench/original.rs), on the same inputs. The times of
+ * CRC-32 are checksum.rs's.
  *
  *   bench                  a line a row: name, bytes and messages of one operation, and its nanoseconds, the least of five samples: for the
  *                          port, and for the original, 0 where it isn't there
  *   bench once SIDE ROW N  does a row's operation N times (SIDE 0 the port, 1 the original), with no clock: for a counter of instructions.
- *                          A journal has at most 1,000 records then
+ *                          A journal has at most 1,000 records then. Of a CRC-32 it does the port's
  *   bench agreement        takes no time, and prints nothing where both sides agree
  *
  * Before a clock is read each answer of one side is held to the other's, and in each timed sample a digest of the answers. Where they
- * differ the status is 2. With STANDIN defined (bench/standin.c) the original's side is there for CRC-32 alone. */
+ * differ the status is 2. With STANDIN defined (bench/standin.c) the original's side is there for CRC-32 alone, which is then timed here. */
 #include "bulvreden.h"
 
 #define PREFIX 12288
@@ -45,7 +46,6 @@ struct pair {
 };
 
 struct original_desk;
-uint32_t original_crc32(const uint8_t *bytes, size_t length);
 struct outcome original_scan(const uint8_t *journal, size_t length, uint64_t limit);
 size_t original_entries(const uint8_t *journal, size_t length, uint64_t limit, struct bulvreden_entry *out, size_t room);
 struct pair original_walk(const uint8_t *journal, size_t length, uint64_t limit);
@@ -101,7 +101,8 @@ static struct pair port_reread(const uint8_t *from, size_t length, const struct 
 static const struct side port = {bulvreden_crc32, port_scan, port_walk, port_write_seal, port_reread};
 
 #ifdef STANDIN
-static const struct side original = {original_crc32, 0, 0, 0, 0};
+uint32_t standin_crc32(const uint8_t *bytes, size_t length);
+static const struct side original = {standin_crc32, 0, 0, 0, 0};
 static void open_desk(void) {}
 #else
 static struct original_desk *desk;
@@ -118,7 +119,7 @@ static struct pair rust_reread(const uint8_t *from, size_t length, const struct 
     return original_reread(desk, from, length, entry->offset, (uint32_t)entry->body, entry->number);
 }
 
-static const struct side original = {original_crc32, rust_scan, rust_walk, rust_write_seal, rust_reread};
+static const struct side original = {0, rust_scan, rust_walk, rust_write_seal, rust_reread};
 static void open_desk(void) { desk = original_desk(code.bytes, 1); }
 #endif
 
@@ -212,7 +213,7 @@ static const struct row rows[ROWS] = {
 };
 
 /* Is the original's side there? */
-static int has_other(const struct row *row) { return original.scan != 0 || row->run == run_crc; }
+static int has_other(const struct row *row) { return row->run == run_crc ? original.crc != 0 : original.scan != 0; }
 
 static int of_journal(const struct row *row) { return row->run == run_scan || row->run == run_walk; }
 
@@ -224,17 +225,17 @@ static uint64_t bytes_of(const struct row *row) {
 
 /* ---- what is checked before a clock is read */
 
-static void check_crc(void) {
+#ifdef STANDIN
+/* The entries for the re-reads are those of a scan. */
+static void check(void) {
     for (size_t length = 0; length < 300; length++)
         if (port.crc(data + length, length) != original.crc(data + length, length)) stop("a CRC-32");
     if (port.crc(data, MEBIBYTE) != original.crc(data, MEBIBYTE)) stop("the CRC-32 of a mebibyte");
-}
-
-#ifdef STANDIN
-/* The entries for the re-reads are those of a scan. */
-static void check_rest(void) {
     if (port.scan(journal, length_of[MOST]).count != MOST) stop("a scan");
 }
+
+/* The walk is the original's alone. */
+static int timed(const struct row *row) { return row->run != run_walk; }
 #else
 static struct bulvreden_entry others[MOST];
 
@@ -256,12 +257,14 @@ static void check_message(uint64_t number) {
     if (one.second != FRAME || other.second != FRAME || memcmp((void *)one.first, (void *)other.first, FRAME) != 0) stop("a re-read");
 }
 
-static void check_rest(void) {
+static void check(void) {
     check_scan(1000);
     check_scan(10000);
     check_scan(MOST);
     for (uint64_t number = 1; number <= REREAD; number++) check_message(number);
 }
+
+static int timed(const struct row *row) { return row->run != run_crc; }
 #endif
 
 /* ---- the times */
@@ -305,13 +308,14 @@ static void make_entries(uint64_t count) {
 static int once(const char *side, const char *name, const char *times) {
     size_t i = 0;
     while (i < ROWS && strcmp(rows[i].name, name) != 0) i++;
-    if (i == ROWS || !has_other(&rows[i])) return 2;
+    int mine = strcmp(side, "0") == 0;
+    if (i == ROWS || (!mine && !has_other(&rows[i]))) return 2;
     struct row row = rows[i];
     if (row.run != run_crc && row.size > ONCE) row.size = ONCE;
     make_bytes(row.run == run_crc ? row.size : 0);
     if (row.run != run_crc) make_journal(row.size);
     if (row.run == run_reread) make_entries(row.size);
-    printf("%lu\n", row.run(strcmp(side, "0") == 0 ? &port : &original, &row, (uint64_t)strtol(times, 0, 10)));
+    printf("%lu\n", row.run(mine ? &port : &original, &row, (uint64_t)strtol(times, 0, 10)));
     return 0;
 }
 
@@ -322,10 +326,9 @@ int main(int words, char **word) {
     if (words != 1 && !agreement) return 2;
     make_bytes(MEBIBYTE);
     make_journal(MOST);
-    check_crc();
-    check_rest();
+    check();
     if (agreement) return 0;
     for (size_t i = 0; i < ROWS; i++)
-        if (has_other(&rows[i]) || rows[i].run != run_walk) measure(&rows[i]);
+        if (timed(&rows[i])) measure(&rows[i]);
     return 0;
 }

@@ -19,7 +19,7 @@ __attribute__((constructor)) static void build_table(void) {
     }
 }
 
-uint32_t original_crc32(const uint8_t *bytes, size_t length) {
+uint32_t standin_crc32(const uint8_t *bytes, size_t length) {
     uint32_t crc = 0xFFFFFFFFu;
     for (size_t i = 0; i < length; i++) {
         uint8_t index = (uint8_t)((uint8_t)crc ^ bytes[i]);

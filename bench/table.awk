@@ -1,5 +1,5 @@
-# Prints the table: from the counts (row, N, instructions at N and 2N for the port, the same for the original) and the times that five runs of
-# the driver wrote (bench.c says how). Status 1 where the port's scan grows 12 times or more from 10,000 to 100,000 records.
+# Prints the table: from the counts (row, instructions of one operation for the port, the same for the original) and the times that five runs
+# of the drivers wrote (bench.c says how). Status 1 where the port's scan grows 12 times or more from 10,000 to 100,000 records.
 
 BEGIN {
     label["crc-64"] = "CRC-32 of 64 bytes"
@@ -29,8 +29,8 @@ function counted(name, bytes, messages, count) {
 }
 
 FILENAME ~ /counts$/ {
-    mine[$1] = ($4 - $3) / $2
-    theirs[$1] = ($6 - $5) / $2
+    mine[$1] = $2
+    theirs[$1] = $3
     next
 }
 

@@ -1,7 +1,7 @@
 -- A function that is one `match` on a number, with an arm for each entry of a list, from key 0 on: at key k it answers the entry at k.
 -- The toolchain's own walk of a `match` has a need for each arm, and isn't made past 512 of them. This law goes by the list, whatever its length.
 --     fnOf             the function's MIR, from its entries
---     numbersOf        the entries, from its MIR: so that no proof has a copy of them
+--     storedBy         the entries, from its MIR: so that no proof has a copy of them
 --     matched          its contract, where the entry at each key meets it
 -- Assumes `Given`.
 use mathlib.Core.Path.{_≡_, refl, sym, _∙_, subst}
@@ -114,22 +114,22 @@ stored (exit n) = 0
 stored return = 0
 stored (call f os p) = 0
 
-unfoldable pub each-stored : Arms → List ℕ
-each-stored (arm ks b zs) = stored b ∷ each-stored zs
-each-stored (default b) = []
-each-stored noDefault = []
+unfoldable pub stored-in : Arms → List ℕ
+stored-in (arm ks b zs) = stored b ∷ stored-in zs
+stored-in (default b) = []
+stored-in noDefault = []
 
-unfoldable pub numbersOf : Body → List ℕ
-numbersOf (switch o zs) = each-stored zs
-numbersOf skip = []
-numbersOf (seq a b) = []
-numbersOf (assign p v) = []
-numbersOf (block b) = []
-numbersOf (loop b) = []
-numbersOf (cond o a b) = []
-numbersOf (exit n) = []
-numbersOf return = []
-numbersOf (call f os p) = []
+unfoldable pub storedBy : Body → List ℕ
+storedBy (switch o zs) = stored-in zs
+storedBy skip = []
+storedBy (seq a b) = []
+storedBy (assign p v) = []
+storedBy (block b) = []
+storedBy (loop b) = []
+storedBy (cond o a b) = []
+storedBy (exit n) = []
+storedBy return = []
+storedBy (call f os p) = []
 
 module _ (w : Width) where
   abbrev pub ps : List (PK 0)

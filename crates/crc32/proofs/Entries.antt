@@ -1,6 +1,6 @@
 -- The rule of the table of CRC-32, at all of its entries, from one test that antt computes.
 --     Tabled           the test: of n rows, row after row
---     rule             the entry at a place is what `entryOf` says
+--     rule             the entry at a place is what `rowEntry` says
 -- Assumes nothing.
 use mathlib.Core.Path.{_≡_, refl, sym, ap, ap₂, _∙_, subst}
 use mathlib.Core.Bool.{Bool, true, false, _&&_}
@@ -15,7 +15,7 @@ use mir.Facts.{and-yes}
 use lib.Pow.{pow-pos, pow-mono, split}
 use lib.Seq.{getD-append-add}
 use Rattle.crc32.specs.Crc.{feeds, next}
-use Rattle.crc32.specs.Table.{entryOf}
+use Rattle.crc32.specs.Rows.{rowEntry}
 use Rattle.crc32.proofs.Register.{shifts, shifts-add, next-shifts, from-nothing}
 
 -- ---- the test: an entry is the register after a byte of 0, from the entry above it; above the first row stand the bytes themselves
@@ -79,8 +79,8 @@ module _ (n : ℕ) (xs : List ℕ) (t : Tabled n xs) where
       ∙ sym (shifts-add (8 + j * 8) 8 b)
       ∙ ap (λ (m : ℕ). shifts m b) more
 
-  pub rule : (k : ℕ) → k < n * 256 → getD xs k 0 ≡ entryOf k
-  unfolding entryOf
+  pub rule : (k : ℕ) → k < n * 256 → getD xs k 0 ≡ rowEntry k
+  unfolding rowEntry
   rule k h =
       let j = k / 256 in
       let b = k % 256 in
@@ -91,6 +91,6 @@ module _ (n : ℕ) (xs : List ℕ) (t : Tabled n xs) where
       ∙ sym (from-nothing (j * 8 + 8) b (lt-of-lt-of-le byte (pow-mono {i = 8} {j = j * 8 + 8} (omega arith))))
 
 -- row 0
-pub first : (k : ℕ) → k < 256 → entryOf k ≡ next 0 k
-unfolding entryOf next
+pub first : (k : ℕ) → k < 256 → rowEntry k ≡ next 0 k
+unfolding rowEntry next
 first k h = ap₂ (λ (n b : ℕ). feeds (n * 8 + 8) 0 b) (div-eq-of-lt h) (mod-eq-of-lt h)

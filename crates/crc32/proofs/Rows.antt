@@ -3,10 +3,10 @@
 --     no-row, one-row, all-rows   `eight`: before its loop, one turn, and after it
 --     eight-on                    `update`: one turn
 -- Assumes nothing.
-use mathlib.Core.Path.{_≡_, refl, sym, ap, ap₂, _∙_, subst}
+use mathlib.Core.Path.{_≡_, sym, ap, ap₂, _∙_, subst}
 use mathlib.Core.List.{List, [], _∷_, _++_}
 use Prim.Native.Nat.{ℕ, zero, suc, _+_, _*_, _-_, _/_, _%_, _^_, _≤_, _<_}
-use native.Mathlib.Nat.{mod-lt, lt-of-lt-of-le, le-of-suc-le-suc, not-suc-le-zero, suc-mul, mul-suc, add-comm, mul-comm, div-one}
+use native.Mathlib.Nat.{mod-lt, lt-of-lt-of-le, le-of-suc-le-suc, not-suc-le-zero, suc-mul, add-comm, mul-comm, div-one}
 use native.Mathlib.Numerals.{add-one}
 use native.Mathlib.Omega.{arith}
 use lib.Pow.{pow-pos, pow-mono, shr-shr, high, low}
@@ -19,7 +19,7 @@ use Rattle.fields.proofs.Back.{le-back}
 use Rattle.fields.proofs.Parts.{rest-all}
 use Rattle.fields.proofs.Widths.{leBytes-length}
 use Rattle.crc32.specs.Crc.{next, feeds, crcFrom}
-use Rattle.crc32.specs.Table.{entryOf}
+use Rattle.crc32.specs.Rows.{rowEntry}
 use Rattle.crc32.proofs.Xor.{xor-assoc}
 use Rattle.crc32.proofs.Register.{shifts, shifts-add, shifts-xor, shifts-high, next-shifts, from-nothing}
 use Rattle.crc32.proofs.Joined.{crcFrom-append}
@@ -55,7 +55,7 @@ of-number (suc n) x zero = mod-lt x (lit< tt)
 of-number (suc n) x (suc k) = of-number n (x / 256) k
 
 -- the byte of a number at a place
-pub byte-of : (n x k : ℕ) → k < n → getD (leBytes n x) k 0 ≡ x / 2 ^ (8 * k) % 2 ^ 8
+byte-of : (n x k : ℕ) → k < n → getD (leBytes n x) k 0 ≡ x / 2 ^ (8 * k) % 2 ^ 8
 unfolding leBytes
 byte-of zero x k h = absurd (not-suc-le-zero h)
 byte-of (suc n) x zero h = ap (λ (y : ℕ). y % 2 ^ 8) (sym (div-one x))
@@ -96,8 +96,8 @@ apart c t q small h =
 
 -- ---- each byte by a row of its own
 
-entry-at : (j b : ℕ) → b < 2 ^ 8 → entryOf (256 * j + b) ≡ shifts (j * 8) (next 0 b)
-unfolding entryOf
+entry-at : (j b : ℕ) → b < 2 ^ 8 → rowEntry (256 * j + b) ≡ shifts (j * 8) (next 0 b)
+unfolding rowEntry
 entry-at j b h =
     let place : 256 * j + b ≡ j * 2 ^ 8 + b = omega arith in
     ap (λ (k : ℕ). feeds (k / 256 * 8 + 8) 0 (k % 256)) place
@@ -109,7 +109,7 @@ entry-at j b h =
 
 -- the last j bytes are through; the one before them, at p, goes by row j
 row-on : (t : List ℕ) (j p r e : ℕ) → Bytes t → length t ≡ p + 1 + j → r ≡ crcFrom 0 (drop (p + 1) t)
-    → e ≡ entryOf (256 * j + getD t p 0) → bitXor r e ≡ crcFrom 0 (drop p t)
+    → e ≡ rowEntry (256 * j + getD t p 0) → bitXor r e ≡ crcFrom 0 (drop p t)
 unfolding crcFrom
 row-on t j p r e small many er ee =
     let b = getD t p 0 in
@@ -170,13 +170,13 @@ module _ (c x : ℕ) (s : List ℕ) (i : ℕ) (small : Bytes s) (room : i + 8 �
       let few : length (eightOf x s i) ≤ 8 = omega (arith, eight-many) in
       sym (ap (crcFrom 0) (drop-of-length-le (eightOf x s i) few))
 
-  pub one-row : (j r e b : ℕ) → j < 8 → r ≡ crcFrom 0 (drop (8 - j) (eightOf x s i)) → b ≡ getD (eightOf x s i) (7 - j) 0 → e ≡ entryOf (256 * j + b)
+  pub one-row : (j r e b : ℕ) → j < 8 → r ≡ crcFrom 0 (drop (8 - j) (eightOf x s i)) → b ≡ getD (eightOf x s i) (7 - j) 0 → e ≡ rowEntry (256 * j + b)
       → bitXor r e ≡ crcFrom 0 (drop (8 - (j + 1)) (eightOf x s i))
   one-row j r e b h er eb ee =
       let t = eightOf x s i in
       let done : 8 - j ≡ 7 - j + 1 = omega arith in
       let left : 7 - j ≡ 8 - (j + 1) = omega arith in
-      row-on t j (7 - j) r e eight-bytes (omega (arith, eight-many)) (er ∙ ap (λ (n : ℕ). crcFrom 0 (drop n t)) done) (ee ∙ ap (λ (y : ℕ). entryOf (256 * j + y)) eb)
+      row-on t j (7 - j) r e eight-bytes (omega (arith, eight-many)) (er ∙ ap (λ (n : ℕ). crcFrom 0 (drop n t)) done) (ee ∙ ap (λ (y : ℕ). rowEntry (256 * j + y)) eb)
       ∙ ap (λ (n : ℕ). crcFrom 0 (drop n t)) left
 
   pub all-rows : (j r : ℕ) → j ≡ 8 → r ≡ crcFrom 0 (drop (8 - j) (eightOf x s i)) → x ≡ bitXor c (le 4 s i) → x < 2 ^ 32 → r ≡ crcFrom c (take 8 (drop i s))

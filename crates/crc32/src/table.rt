@@ -5,12 +5,12 @@
 ghost use mathlib.Core.Path.{_≡_};
 ghost use Prim.Native.Nat.{_<_};
 ghost use Rattle.crc32.specs.Crc.{next};
-ghost use Rattle.crc32.specs.Table.{entryOf};
+ghost use Rattle.crc32.specs.Rows.{rowEntry};
 
 // The entry at 256 * row + byte.
 pub(crate) fn entry(k: usize) -> u32
     requires { ⌜ k < 2048 ⌝ }
-    ensures { λ r. ⌜ r ≡ entryOf k ⌝ }
+    ensures { λ r. ⌜ r ≡ rowEntry k ⌝ }
 {
     match k {
         0 => 0x0000_0000,

@@ -17,13 +17,6 @@ pub struct Pair {
 /// # Safety
 /// The bytes stand there.
 #[no_mangle]
-pub unsafe extern "C" fn original_crc32(bytes: *const u8, length: usize) -> u32 {
-    direct::crc32(from_raw_parts(bytes, length))
-}
-
-/// # Safety
-/// The bytes stand there.
-#[no_mangle]
 pub unsafe extern "C" fn original_scan(journal: *const u8, length: usize, limit: u64) -> Found {
     let refused = Found { count: 0, end: 0, dead: 0, sender: 0, target: 0, generation: 0 };
     direct::scan(from_raw_parts(journal, length), limit).unwrap_or(refused)

@@ -8,7 +8,8 @@
 //!
 //!     checksum                    the table: each side's speed, and the ratio, the original's time by the port's
 //!     checksum lines              a line a row instead, as the driver in C prints its rows
-//!     checksum once SIDE ROW N    a row's CRC-32, N times, with no clock (SIDE 0 the port, 1 the original): for a counter of instructions
+//!     checksum once SIDE ROW N    the CRC-32 of a row, crc- and any length up to 1 MiB, N times, with no clock (SIDE 0 the port, 1 the
+//!                                 original): for a counter of instructions
 //!     checksum agreement          takes no time, and prints nothing where both sides agree
 //!
 //! Status 2: the sides differ, or the words are none of these.
@@ -18,8 +19,9 @@ use std::hint::black_box;
 use std::process::ExitCode;
 use std::time::Instant;
 
-const ROWS: [(&str, usize); 3] = [("crc-64", 64), ("crc-4096", 4096), ("crc-1048576", 1_048_576)];
 const MOST: usize = 1_048_576;
+/// The lengths that are measured. A row is named crc- and its length.
+const LENGTHS: [usize; 3] = [64, 4096, MOST];
 const SAMPLES: usize = 5;
 /// A sample takes so long at least.
 const LEAST_NS: f64 = 1e7;
@@ -44,7 +46,7 @@ fn made(count: usize) -> Vec<u8> {
     (0..count as u64).map(|i| (i * 2_654_435_761 >> 13) as u8).collect()
 }
 
-/// A side's CRC-32 of the bytes, so many times: a digest of the answers. No time is saved by what is known of them.
+/// A side's CRC-32 of the bytes, so many times: a digest of the answers. Without the black box it could be taken once for all times.
 fn run(side: Side, bytes: &[u8], times: u64) -> u64 {
     (0..times).map(|_| u64::from(side(black_box(bytes)))).fold(0, u64::wrapping_add)
 }
@@ -56,13 +58,19 @@ fn timed(side: Side, bytes: &[u8], times: u64) -> (f64, u64) {
     (start.elapsed().as_nanos() as f64 / times as f64, digest)
 }
 
-/// The least of five samples of each side, in turn; nothing where the digests differ. Both are warm by then.
-fn measured(bytes: &[u8]) -> Option<[f64; 2]> {
+/// So many times that a sample is long enough: twice as many until it is. Both sides are warm then.
+fn enough(bytes: &[u8]) -> u64 {
     let mut times = 1;
     while timed(port, bytes, times).0 * (times as f64) < LEAST_NS {
         times *= 2;
     }
     run(original, bytes, times);
+    times
+}
+
+/// The least of five samples of each side, in turn; nothing where the digests differ.
+fn measured(bytes: &[u8]) -> Option<[f64; 2]> {
+    let times = enough(bytes);
     let mut least = [f64::INFINITY; 2];
     for _ in 0..SAMPLES {
         let taken = SIDES.map(|side| timed(side, bytes, times));
@@ -79,27 +87,27 @@ fn agree(bytes: &[u8]) -> bool {
     (0..300).all(|length| port(&bytes[length..2 * length]) == original(&bytes[length..2 * length])) && port(bytes) == original(bytes)
 }
 
-fn line(name: &str, size: usize, [port, original]: [f64; 2]) {
-    println!("{name} {size} 1 {port:.3} {original:.3}");
+fn line(size: usize, [port, original]: [f64; 2]) {
+    println!("crc-{size} {size} 1 {port:.3} {original:.3}");
 }
 
-fn table_row(_: &str, size: usize, [port, original]: [f64; 2]) {
+fn table_row(size: usize, [port, original]: [f64; 2]) {
     let speed = |ns: f64| 1000.0 * size as f64 / ns;
     println!("| {size} | {:.1} MB/s | {:.1} MB/s | {:.2} |", speed(port), speed(original), original / port);
 }
 
-fn all(show: fn(&str, usize, [f64; 2])) -> Option<()> {
+fn all(show: fn(usize, [f64; 2])) -> Option<()> {
     let bytes = made(MOST);
     agree(&bytes).then_some(())?;
-    for (name, size) in ROWS {
-        show(name, size, measured(&bytes[..size])?);
+    for size in LENGTHS {
+        show(size, measured(&bytes[..size])?);
     }
     Some(())
 }
 
 fn once(side: &str, row: &str, times: &str) -> Option<()> {
     let side = SIDES.get(side.parse::<usize>().ok()?)?;
-    let (_, size) = ROWS.into_iter().find(|(name, _)| *name == row)?;
+    let size = row.strip_prefix("crc-")?.parse().ok().filter(|size| *size <= MOST)?;
     println!("{}", run(*side, &made(size), times.parse().ok()?));
     Some(())
 }
@@ -118,7 +126,7 @@ fn main() -> ExitCode {
         _ => None,
     };
     if done.is_none() {
-        eprintln!("checksum: the sides differ, or the words aren't known");
+        println!("the sides differ, or the words aren't known");
         return ExitCode::from(2);
     }
     ExitCode::SUCCESS

@@ -6,13 +6,13 @@ use mathlib.Core.Path.{_≡_, refl, sym, ap, ap₂, _∙_, subst}
 use mathlib.Core.Bool.{Bool, true, false, _&&_}
 use mathlib.Core.List.{List, [], _∷_, _++_}
 use Prim.Native.Nat.{ℕ, zero, suc, _+_, _*_, _/_, _%_, _^_, _<_}
-use native.Mathlib.Nat.{add-zero, zero-add, add-suc, suc-add, add-comm, le-of-suc-le-suc, not-suc-le-zero, lt-of-lt-of-le, le-of-lt, mod-lt, div-eq-of-lt, mod-eq-of-lt}
+use native.Mathlib.Nat.{add-zero, zero-add, add-suc, suc-add, add-comm, le-of-suc-le-suc, not-suc-le-zero, le-of-lt, mod-lt, div-eq-of-lt, mod-eq-of-lt}
 use native.Mathlib.Omega.{arith}
 use lib.Bits.{xor-zero-r}
 use lib.Dec.{T, eqb, eqb→eq, lit<}
 use lib.ListN.{length, getD, List·getD-append}
 use mir.Facts.{and-yes}
-use lib.Pow.{pow-pos, pow-mono, split}
+use lib.Pow.{pow-pos, split}
 use lib.Seq.{getD-append-add}
 use Rattle.crc32.specs.Crc.{feeds, next}
 use Rattle.crc32.specs.Rows.{rowEntry}
@@ -88,7 +88,7 @@ module _ (n : ℕ) (xs : List ℕ) (t : Tabled n xs) where
       ap (λ (m : ℕ). getD xs m 0) (sym (split k 8))
       ∙ rows j b (omega arith) byte
       ∙ ap (λ (m : ℕ). shifts m b) (add-comm 8 (j * 8))
-      ∙ sym (from-nothing (j * 8 + 8) b (lt-of-lt-of-le byte (pow-mono {i = 8} {j = j * 8 + 8} (omega arith))))
+      ∙ sym (from-nothing j b byte)
 
 -- row 0
 pub first : (k : ℕ) → k < 256 → rowEntry k ≡ next 0 k

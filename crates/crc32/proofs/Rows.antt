@@ -6,10 +6,10 @@
 use mathlib.Core.Path.{_≡_, sym, ap, ap₂, _∙_, subst}
 use mathlib.Core.List.{List, [], _∷_, _++_}
 use Prim.Native.Nat.{ℕ, zero, suc, _+_, _*_, _-_, _/_, _%_, _^_, _≤_, _<_}
-use native.Mathlib.Nat.{mod-lt, lt-of-lt-of-le, le-of-suc-le-suc, not-suc-le-zero, suc-mul, add-comm, mul-comm, div-one}
+use native.Mathlib.Nat.{mod-lt, le-of-suc-le-suc, not-suc-le-zero, suc-mul, add-comm, mul-comm, div-one}
 use native.Mathlib.Numerals.{add-one}
 use native.Mathlib.Omega.{arith}
-use lib.Pow.{pow-pos, pow-mono, shr-shr, high, low}
+use lib.Pow.{shr-shr, high, low}
 use lib.Bits.{bitXor, bitAnd, and-mask, xor-shifted, xor-zero-l, xor-zero-r, xor-comm}
 use lib.Dec.{lit<}
 use lib.ListN.{length, getD, take, drop, length-drop, length-append, take-append-drop, drop-of-length-le, List·getD-append}
@@ -102,7 +102,7 @@ entry-at j b h =
     let place : 256 * j + b ≡ j * 2 ^ 8 + b = omega arith in
     ap (λ (k : ℕ). feeds (k / 256 * 8 + 8) 0 (k % 256)) place
     ∙ ap₂ (λ (n x : ℕ). feeds (n * 8 + 8) 0 x) (high j 8 h) (low j 8 h)
-    ∙ from-nothing (j * 8 + 8) b (lt-of-lt-of-le h (pow-mono {i = 8} {j = j * 8 + 8} (omega arith)))
+    ∙ from-nothing j b h
     ∙ ap (λ (n : ℕ). shifts n b) (add-comm (j * 8) 8)
     ∙ shifts-add 8 (j * 8) b
     ∙ ap (shifts (j * 8)) (ap (shifts 8) (sym (xor-zero-l b)) ∙ sym (next-shifts 0 b h))

@@ -6,9 +6,8 @@
 // `update` goes on from a register: it starts at 0xFFFF_FFFF, and its complement is the CRC-32.
 // Each takes any bytes of any number. The definition, bit by bit, is specs/Crc.antt.
 //
-// Eight bytes go through the table at once: the register is put into the first four, and each of the eight then has a row of its own. `eight`,
-// `row_byte`, `bytewise` and the two functions of `table` have one caller each, so that the compiler puts them in line there. A second caller
-// makes each lookup a call, which no proof sees: the gate counts instructions (bench/run).
+// Eight bytes go through the table at once: the register is put into the first four, and each of the eight then has a row of its own. Every
+// private function here and in `table` has one caller, so that the compiler puts it in line: keep it so (docs/DECISIONS.md, CRC-32).
 ghost use mathlib.Core.Path.{_≡_};
 ghost use mathlib.Core.List.{_++_};
 ghost use Prim.Native.Nat.{_+_, _-_, _≤_, _<_};

@@ -1,7 +1,5 @@
-// The table of CRC-32: 2,048 entries, eight rows of 256. The entry of a byte in row j is what a register of 0 becomes after the byte and j bytes of 0.
-//
-// A `match` is kept in the program's data, where an array would be stored on the stack by each call. Each of the two is asked for at one place
-// alone: that is what puts it in line there.
+// The table of CRC-32: 2,048 entries, eight rows of 256. The entry of a byte in row j is what a register of 0 becomes after the byte and j
+// bytes of 0. It is a `match`, which the compiler keeps in the program's data, where an array would be stored on the stack by each call.
 ghost use mathlib.Core.Path.{_≡_};
 ghost use Prim.Native.Nat.{_<_};
 ghost use Rattle.crc32.specs.Crc.{next};

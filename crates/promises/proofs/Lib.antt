@@ -1,0 +1,13 @@
+pub mod ChainLoss
+pub mod LastPlace
+pub mod LastRecords
+pub mod Lasted
+pub mod LeftBytes
+pub mod LossMatched
+pub mod LossOfChain
+pub mod LossOpens
+pub mod MatchOrNot
+pub mod PowerLoss
+pub mod Shortening
+pub mod TornRecord
+pub mod WholeRecords

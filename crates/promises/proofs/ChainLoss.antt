@@ -3,7 +3,7 @@
 -- Assumes nothing.
 use mathlib.Core.Path.{_≡_, refl, sym, ap, subst}
 use mathlib.Core.Bool.{Bool, true, false}
-use mathlib.Core.List.{List, _++_}
+use mathlib.Core.List.{List}
 use mathlib.Core.Logic.{_⊎_, inl, inr}
 use Prim.Native.Nat.{ℕ, _+_, _*_, _-_, _≤_, _<_}
 use native.Mathlib.Omega.{arith}
@@ -18,7 +18,7 @@ use Rattle.journal.specs.Walk.{endOf}
 use Rattle.journal.specs.Demand3.{behindPrefix}
 use Rattle.promises.specs.Shortening.{wholeIn}
 use Rattle.promises.specs.Lost.{lostTo, lastPlace, lasting, lastingEnd, lossCut}
-use Rattle.promises.specs.PowerLoss.{OpensWith, RefusedWith, OpensLasting, Decides, Enough, Matched, lastStart, AfterMatch, AfterLoss, opens, eleven, kept, fourteen}
+use Rattle.promises.specs.PowerLoss.{LeftOpens, LeftRefused, OpensLasting, Decides, Enough, Matched, lastStart, AfterMatch, AfterLoss, opens, eleven, keeps, fourteen}
 use Rattle.promises.proofs.WholeRecords.{ends-later}
 use Rattle.promises.proofs.LastPlace.{same-left, was-lost}
 use Rattle.promises.proofs.LastRecords.{last-most, before-last}
@@ -45,7 +45,7 @@ module _ (limit N : ℕ) (lent : List Entry) (s : List ℕ) (rs : List Record) (
   -- N is enough, and nothing matches by chance: the records that lasted
   pub chain-loss : Enough limit N s rs k m → (Matched s rs k m → ⊥) → OpensLasting limit N lent s rs k m
   chain-loss near chance =
-      subst (λ (v : List ℕ). OpensWith limit N lent s v (lasting s rs k m) (lossCut s (lastPlace k m s) (lastingEnd s rs k m) m)) (sym same)
+      subst (λ (v : List ℕ). LeftOpens limit N lent s v (lasting s rs k m) (lossCut s (lastPlace k m s) (lastingEnd s rs k m) m)) (sym same)
       (opens-lasting limit N lent s rs (lastPlace k m s) m last lost-there near chance)
 
   -- at most the last N records weren't on stable storage: N is enough
@@ -58,9 +58,9 @@ module _ (limit N : ℕ) (lent : List Entry) (s : List ℕ) (rs : List Record) (
 
   -- a head in part, and more bytes than N records have: 11
   pub chain-eleven : Decides s rs k m → N * (12 + limit) < m - lastingEnd s rs k m
-      → RefusedWith limit N lent (lostTo k m s) (lasting s rs k m) 11 (lastingEnd s rs k m)
+      → LeftRefused limit N lent (lostTo k m s) (lasting s rs k m) 11 (lastingEnd s rs k m)
   chain-eleven part far =
-      subst (λ (v : List ℕ). RefusedWith limit N lent v (lasting s rs k m) 11 (lastingEnd s rs k m)) (sym same)
+      subst (λ (v : List ℕ). LeftRefused limit N lent v (lasting s rs k m) 11 (lastingEnd s rs k m)) (sym same)
       (at-a-head.eleven limit N lent s rs (lastPlace k m s) m last lost-there part far)
 
   -- a chance match: the record is kept, or 14
@@ -68,11 +68,11 @@ module _ (limit N : ℕ) (lent : List Entry) (s : List ℕ) (rs : List Record) (
   chain-matched c =
       let u = c .torn .place + lengthOf (c .torn) in
       record {
-        kept = λ high.
-            subst (λ (v : List ℕ). OpensWith limit N lent s v (wholeIn u rs) (lossCut s u u m)) (sym same)
+        keeps = λ high.
+            subst (λ (v : List ℕ). LeftOpens limit N lent s v (wholeIn u rs) (lossCut s u u m)) (sym same)
             (kept-opens limit N lent s rs (lastPlace k m s) m last c high);
         fourteen = λ low.
-            subst (λ (v : List ℕ). RefusedWith limit N lent v (lasting s rs k m) 14 (c .torn .place)) (sym same)
+            subst (λ (v : List ℕ). LeftRefused limit N lent v (lasting s rs k m) 14 (c .torn .place)) (sym same)
             (at-a-match.fourteen limit N lent s rs (lastPlace k m s) m last c low);
       }
 
@@ -82,7 +82,7 @@ module _ (limit N : ℕ) (lent : List Entry) (s : List ℕ) (rs : List Record) (
     where
       by-code : (c : Matched s rs k m) (b : Bool) → ltb (lastPlace k m s) (c .torn .place + headLength + c .torn .frame) ≡ b → AfterLoss limit N lent s rs k m
       by-code c true q = fourteen c (chain-matched c .fourteen (ltb-true (lastPlace k m s) (c .torn .place + headLength + c .torn .frame) q))
-      by-code c false q = kept c (chain-matched c .kept (ltb-false (lastPlace k m s) (c .torn .place + headLength + c .torn .frame) q))
+      by-code c false q = keeps c (chain-matched c .keeps (ltb-false (lastPlace k m s) (c .torn .place + headLength + c .torn .frame) q))
 
       by-head : (Matched s rs k m → ⊥) → N * (12 + limit) < m - lastingEnd s rs k m → Decides s rs k m ⊎ (Decides s rs k m → ⊥) → AfterLoss limit N lent s rs k m
       by-head chance far (inl part) = eleven part far (chain-eleven part far)

@@ -14,7 +14,7 @@ use Rattle.prefix.specs.Prefix.{prefixLength}
 use Rattle.record.specs.declared.Record.{Record}
 use Rattle.record.specs.declared.Seen.the-variants.{Sound}
 use Rattle.record.specs.Seen.{seen}
-use Rattle.record.proofs.Zeroed.{kept}
+use Rattle.record.proofs.Zeroed.{stays}
 use Rattle.index.specs.Entries.{lengthOf}
 use Rattle.journal.specs.Walk.{rest, standsAt, Chain, nothing, next}
 use Rattle.journal.proofs.Chains.{within}
@@ -60,7 +60,7 @@ module _ (limit k m : ℕ) (t : List ℕ) (h : prefixLength ≤ k) (l : k - pref
           let w = within limit t p r s .1 in
           let x = leb-true (r .place + lengthOf r) k q in
           let i = ih (omega arith) (omega arith) c d in
-          let head : seen limit p (rest (left limit k m t) p) ≡ Sound r = rw (rest-left p a b) (kept limit p (k - p) (m - k) (rest t p) r s (rest-long p a b) (omega arith)) in
+          let head : seen limit p (rest (left limit k m t) p) ≡ Sound r = rw (rest-left p a b) (stays limit p (k - p) (m - k) (rest t p) r s (rest-long p a b) (omega arith)) in
           record { place = i .place; chain = rw q (next head (i .chain)); inside = i .inside; then = more (i .then) }
         where
           more : {e : ℕ} → (m ≡ e) ⊎ Torn limit k m t rs e → (m ≡ e) ⊎ Torn limit k m t (r ∷ rs) e

@@ -17,7 +17,7 @@ use Rattle.record.specs.declared.Row.{Row}
 use Rattle.record.specs.declared.Seen.the-variants.{Sound, Fault}
 use Rattle.record.specs.Seen.{seen}
 use Rattle.index.specs.declared.Entry.{Entry}
-use Rattle.index.specs.Entries.{bytesOf, numbersOf, entriesOf, overlay}
+use Rattle.index.specs.Entries.{numbersOf, entriesOf, overlay}
 use Rattle.index.proofs.Filing.{numbers-le}
 use Rattle.journal.specs.declared.Rule.the-variants.{Tail}
 use Rattle.journal.specs.declared.Cut.{Cut}
@@ -25,7 +25,7 @@ use Rattle.journal.specs.Walk.{rest, standsAt, Chain, Reading, endOf}
 use Rattle.journal.specs.Walked.{refusedAt, stopAt}
 use Rattle.journal.specs.Front.{Front, frontOf, slotIn}
 use Rattle.journal.specs.Counters.{highest}
-use Rattle.journal.specs.Scan.{refused, opened, answerBy, scanOf, filedIn, indexAfter}
+use Rattle.journal.specs.Scan.{opened, answerBy, scanOf, filedIn, indexAfter}
 use Rattle.journal.specs.Permitted.{Complete, Excused, cutAt}
 use Rattle.journal.specs.Demand3.{behindPrefix, durableEnd, SoundFront, Premises}
 use Rattle.journal.proofs.Chains.{chain-found, chain-front}
@@ -35,7 +35,7 @@ use Rattle.journal.proofs.SoundFronts.{zero-same, one-same, front-same, front-p
 use Rattle.journal.proofs.Opens.{demand3}
 use Rattle.promises.specs.Shortening.{wholeIn}
 use Rattle.promises.specs.Lost.{lostTo}
-use Rattle.promises.specs.PowerLoss.{OpensWith, RefusedWith}
+use Rattle.promises.specs.PowerLoss.{LeftOpens, LeftRefused}
 use Rattle.promises.proofs.WholeRecords.{whole-part}
 use Rattle.promises.proofs.LossOfChain.{LossOfChain, no-longer}
 use Rattle.promises.proofs.Lasted.{Torn, Lasted, lasted, left}
@@ -170,7 +170,7 @@ module _ (limit N : ℕ) (lent : List Entry) (s : List ℕ) (rs : List Record) (
 
     -- it is a permitted end
     pub opens-by : (d : Complete (durableEnd bytes) (behindPrefix bytes) p ⊎ Excused limit N (durableEnd bytes) (behindPrefix bytes) p) (cut : Cut) → cutAt d ≡ cut
-        → OpensWith limit N lent s bytes us cut
+        → LeftOpens limit N lent s bytes us cut
     opens-by d cut q =
         let o = demand3 limit N (length lent) bytes premises .whole (record { records = us; chain = st .chain; tail = d }) in
         record {
@@ -179,7 +179,7 @@ module _ (limit N : ℕ) (lent : List Entry) (s : List ℕ) (rs : List Record) (
         }
 
     -- it is none
-    pub refused-by : (n : ℕ) → stopAt limit (Tail N) (durableEnd bytes) (behindPrefix bytes) p row ≡ refusedAt n p → RefusedWith limit N lent bytes us n p
+    pub refused-by : (n : ℕ) → stopAt limit (Tail N) (durableEnd bytes) (behindPrefix bytes) p row ≡ refusedAt n p → LeftRefused limit N lent bytes us n p
     unfolding answerBy
     refused-by n q =
         let filed = all-filed limit (length lent) (behindPrefix bytes) size (premises .indexRoom (st .chain)) (st .chain) in

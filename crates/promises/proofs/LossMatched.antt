@@ -32,7 +32,7 @@ use Rattle.journal.specs.Demand3.{behindPrefix, durableEnd}
 use Rattle.journal.proofs.Chains.{within, empty-under, chain-snoc}
 use Rattle.promises.specs.Shortening.{wholeIn}
 use Rattle.promises.specs.Lost.{lostTo, lossCut, ChanceMatch}
-use Rattle.promises.specs.PowerLoss.{OpensWith, RefusedWith}
+use Rattle.promises.specs.PowerLoss.{LeftOpens, LeftRefused}
 use Rattle.promises.proofs.WholeRecords.{whole-part, chain-split, whole-before, whole-through}
 use Rattle.promises.proofs.LossOfChain.{LossOfChain, no-longer}
 use Rattle.promises.proofs.TornRecord.{cut-none, cut-few, cut-head}
@@ -116,13 +116,13 @@ module _ (limit N : ℕ) (lent : List Entry) (s : List ℕ) (rs : List Record) (
         (matched-unread limit e (k - e) (m - k) (drop e s) was stood long (omega (arith, c .headLasted)) (omega (arith, c .notWhole, in-k)) (omega (arith, c .ends, in-k))
         match-is (omega (arith, in-k)))
 
-    pub fourteen : RefusedWith limit N lent bytes (wholeIn k rs) 14 (was .place)
+    pub fourteen : LeftRefused limit N lent bytes (wholeIn k rs) 14 (was .place)
     fourteen =
         let there : StopsAt limit N lent s rs k m x (wholeIn k rs) e BodyUnread =
         record { chain = chain-is limit N lent s rs k m x; first = first-lasted limit N lent s rs k m x; stands = unread-there }
         in
         let some : 0 < length (rest (behindPrefix bytes) e) = omega (arith, rest-length limit N lent s rs k m x e past, c .ends, was-there) in
-        subst (RefusedWith limit N lent bytes (wholeIn k rs) 14) (sym was-there)
+        subst (LeftRefused limit N lent bytes (wholeIn k rs) 14) (sym was-there)
         (refused-by limit N lent s rs k m x there 14 (body-cell limit N (durableEnd bytes) (behindPrefix bytes) e some))
 
   -- ---- its code lasted
@@ -168,7 +168,7 @@ module _ (limit N : ℕ) (lent : List Entry) (s : List ℕ) (rs : List Record) (
     durable-there = omega (arith, durable-is limit N lent s rs k m x, was-there)
 
     abbrev Claim : Type 0
-    Claim = OpensWith limit N lent s bytes (wholeIn u rs) (lossCut s u u m)
+    Claim = LeftOpens limit N lent s bytes (wholeIn u rs) (lossCut s u u m)
 
     nothing-behind : m ≡ u → Claim
     nothing-behind i =

@@ -3,7 +3,7 @@
 -- Assumes nothing.
 use mathlib.Core.Path.{_≡_, refl, sym, ap, _∙_}
 use mathlib.Core.Bool.{Bool, true, false}
-use mathlib.Core.List.{List, _∷_, _++_}
+use mathlib.Core.List.{List}
 use mathlib.Core.Logic.{_⊎_, inl, inr}
 use Prim.Native.Nat.{ℕ, _+_, _*_, _-_, _≤_, _<_}
 use native.Mathlib.Omega.{arith}
@@ -17,7 +17,7 @@ use Rattle.prefix.specs.Prefix.{prefixLength}
 use Rattle.record.specs.declared.Record.{Record}
 use Rattle.record.specs.declared.Row.the-variants.{Under12, ComplementWrong}
 use Rattle.record.specs.declared.Seen.the-variants.{Fault}
-use Rattle.record.specs.Seen.{headLength, crcField, bodyIn, seen}
+use Rattle.record.specs.Seen.{crcField, bodyIn, seen}
 use Rattle.record.proofs.SoundBoth.{record-body}
 use Rattle.index.specs.declared.Entry.{Entry}
 use Rattle.index.specs.Entries.{lengthOf}
@@ -30,10 +30,10 @@ use Rattle.journal.proofs.Chains.{empty-under}
 use Rattle.journal.proofs.Reasons.{zeros-told}
 use Rattle.promises.specs.Shortening.{wholeIn}
 use Rattle.promises.specs.Lost.{lostTo, lossCut, HeadInPart, ChanceMatch}
-use Rattle.promises.specs.PowerLoss.{OpensWith, RefusedWith}
+use Rattle.promises.specs.PowerLoss.{LeftOpens, LeftRefused}
 use Rattle.promises.proofs.LossOfChain.{LossOfChain, no-longer}
 use Rattle.promises.proofs.Lasted.{Torn}
-use Rattle.promises.proofs.TornRecord.{cut-none, head-row, Cutting, cutting}
+use Rattle.promises.proofs.TornRecord.{cut-none, head-row, cutting}
 use Rattle.promises.proofs.LeftBytes.{end-past, small, durable-is, chain-is, inside, then-is, stood-is, rest-is, rest-length, first-lasted, StopsAt, opens-by, refused-by}
 
 -- a byte isn't 0
@@ -75,7 +75,7 @@ module _ (limit N : ℕ) (lent : List Entry) (s : List ℕ) (rs : List Record) (
 
   module _ (near : HeadInPart s k e m → m - e ≤ N * (12 + limit)) (chance : ChanceMatch s rs k m → ⊥) where
     abbrev Claim : Type 0
-    Claim = OpensWith limit N lent s bytes (wholeIn k rs) (lossCut s k e m)
+    Claim = LeftOpens limit N lent s bytes (wholeIn k rs) (lossCut s k e m)
 
     none-left : m ≡ e → Claim
     none-left i =
@@ -161,7 +161,7 @@ module _ (limit N : ℕ) (lent : List Entry) (s : List ℕ) (rs : List Record) (
         in
         not-zeros (rest (behindPrefix bytes) e) i (omega (arith, left-there, part .lasted, part .behind, x .placeInside)) (λ z. part .notZero (sym y ∙ z))
 
-    pub eleven : RefusedWith limit N lent bytes (wholeIn k rs) 11 e
+    pub eleven : LeftRefused limit N lent bytes (wholeIn k rs) 11 e
     eleven =
         let there : StopsAt limit N lent s rs k m x (wholeIn k rs) e ComplementWrong =
         record { chain = chain-is limit N lent s rs k m x; first = first-lasted limit N lent s rs k m x; stands = stands-there }

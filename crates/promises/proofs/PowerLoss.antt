@@ -2,25 +2,23 @@
 -- Assumes nothing.
 use mathlib.Core.Path.{_≡_, refl, sym, ap, subst, _∙_}
 use mathlib.Core.Bool.{Bool, true, false}
-use mathlib.Core.List.{List, _++_}
-use Prim.Native.Nat.{ℕ, _+_, _*_, _-_, _≤_}
+use mathlib.Core.List.{List}
+use Prim.Native.Nat.{_+_, _*_, _-_, _≤_}
 use native.Mathlib.Omega.{arith}
 use lib.ListN.{length}
 use lib.Dec.{leb}
 use borrow.Author.Tests.{leb-true, leb-false}
 use Rattle.record.specs.declared.Record.{Record}
-use Rattle.index.specs.declared.Entry.{Entry}
 use Rattle.journal.specs.declared.Rule.the-variants.{Tail}
 use Rattle.journal.specs.declared.Answer.the-variants.{Open}
 use Rattle.journal.specs.declared.answers.Scan.{Scan}
 use Rattle.journal.specs.Walk.{endOf}
 use Rattle.journal.specs.Scan.{refused, opened, scanOf}
 use Rattle.journal.specs.Demand3.{durableEnd}
-use Rattle.journal.specs.Written.{Written}
 use Rattle.journal.proofs.OpenScans.{shut}
 use Rattle.promises.specs.Shortening.{wholeIn}
-use Rattle.promises.specs.Lost.{LossAt, lostTo, lastPlace, lastingEnd, lossCut}
-use Rattle.promises.specs.PowerLoss.{OpensWith, Enough, PowerLoss, UnsyncedLoss, LossBehindDurable, RefusedLoss, MatchedLoss, EveryLoss}
+use Rattle.promises.specs.Lost.{lostTo, lastPlace, lastingEnd, lossCut}
+use Rattle.promises.specs.PowerLoss.{LeftOpens, Enough, PowerLoss, UnsyncedLoss, LossBehindDurable, RefusedLoss, MatchedLoss, EveryLoss}
 use Rattle.promises.proofs.WholeRecords.{ends-later}
 use Rattle.promises.proofs.LossOfChain.{of-written, lasting-more}
 use Rattle.promises.proofs.ChainLoss.{chain-loss, chain-unsynced, chain-eleven, chain-matched, chain-every}
@@ -40,7 +38,7 @@ loss-behind-durable limit N lent s rs w k m x near chance =
     let b : durableEnd s ≤ lastingEnd s rs k m = omega (arith, c .pastDurable, ends-later (wholeIn k rs) (y .0), ap endOf (y .1)) in
     let o = chain-loss limit N lent s rs k m c (λ z. omega arith) chance in
     let cut = lossCut s (lastPlace k m s) (lastingEnd s rs k m) m in
-    (ap (λ (v : Scan). v .answer) (o .answer), (y .0, cut, subst (λ (v : List Record). OpensWith limit N lent s (lostTo k m s) v cut) (y .1) o))
+    (ap (λ (v : Scan). v .answer) (o .answer), (y .0, cut, subst (λ (v : List Record). LeftOpens limit N lent s (lostTo k m s) v cut) (y .1) o))
 
 pub refused-loss : RefusedLoss
 unfolding opened refused

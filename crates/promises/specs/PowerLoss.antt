@@ -24,19 +24,19 @@ use Rattle.promises.specs.Lost.{LossAt, lostTo, lastPlace, lasting, last
 -- ---- what is claimed
 
 -- Tail opens these bytes with what the records kept say and nothing else, and so does the index. s is the journal as it was written
-pub record OpensWith (limit N : ℕ) (lent : List Entry) (s : List ℕ) (left : List ℕ) (kept : List Record) (cut : Cut) : Type 0 where
+pub record LeftOpens (limit N : ℕ) (lent : List Entry) (s : List ℕ) (left : List ℕ) (kept : List Record) (cut : Cut) : Type 0 where
   pub answer : scanOf limit (Tail N) (length lent) left ≡ opened (frontOf s) kept cut
   pub index : indexAfter limit lent left ≡ overlay (entriesOf kept) lent
 
 -- Tail refuses these bytes with the number n at the place p, and the index has the entries of the records before it
-pub record RefusedWith (limit N : ℕ) (lent : List Entry) (left : List ℕ) (kept : List Record) (n p : ℕ) : Type 0 where
+pub record LeftRefused (limit N : ℕ) (lent : List Entry) (left : List ℕ) (kept : List Record) (n p : ℕ) : Type 0 where
   pub answer : scanOf limit (Tail N) (length lent) left ≡ refused n p
   pub index : indexAfter limit lent left ≡ overlay (entriesOf kept) lent
 
 -- after a loss Tail opens with exactly the records that lasted
 abbrev pub OpensLasting : (limit N : ℕ) (lent : List Entry) (s : List ℕ) (rs : List Record) (k m : ℕ) → Type 0
 OpensLasting limit N lent s rs k m =
-    OpensWith limit N lent s (lostTo k m s) (lasting s rs k m) (lossCut s (lastPlace k m s) (lastingEnd s rs k m) m)
+    LeftOpens limit N lent s (lostTo k m s) (lasting s rs k m) (lossCut s (lastPlace k m s) (lastingEnd s rs k m) m)
 
 -- ---- what is asked
 
@@ -75,7 +75,7 @@ LossBehindDurable =
     (limit N : ℕ) (lent : List Entry) (s : List ℕ) (rs : List Record) → Written limit (length lent) s rs
     → (k m : ℕ) → LossAt s k m → m - durableEnd s ≤ N * (12 + limit) → (Matched s rs k m → ⊥)
     → (scanOf limit (Tail N) (length lent) (lostTo k m s) .answer ≡ Open)
-    × ((more : List Record) × (cut : Cut) × OpensWith limit N lent s (lostTo k m s) (wholeIn k rs ++ more) cut)
+    × ((more : List Record) × (cut : Cut) × LeftOpens limit N lent s (lostTo k m s) (wholeIn k rs ++ more) cut)
 
 -- ---- what else is answered
 
@@ -83,7 +83,7 @@ LossBehindDurable =
 pub record OnlyEleven (limit N : ℕ) (lent : List Entry) (s : List ℕ) (rs : List Record) (k m : ℕ) : Type 0 where
   pub exactly : (scanOf limit (Tail N) (length lent) (lostTo k m s) .answer ≡ Open) ↔ Enough limit N s rs k m
   pub eleven : Decides s rs k m → N * (12 + limit) < m - lastingEnd s rs k m
-      → RefusedWith limit N lent (lostTo k m s) (lasting s rs k m) 11 (lastingEnd s rs k m)
+      → LeftRefused limit N lent (lostTo k m s) (lasting s rs k m) 11 (lastingEnd s rs k m)
 
 abbrev pub RefusedLoss : Type 0
 RefusedLoss =
@@ -93,11 +93,11 @@ RefusedLoss =
 -- a chance match, for every N. Where the record's code lasted, it is kept, and only the end of its frame is wrong: the answer is that of a loss at
 -- its end. Where the code didn't last, it is 14 at the record's place
 pub record AfterMatch (limit N : ℕ) (lent : List Entry) (s : List ℕ) (rs : List Record) (k m : ℕ) (torn : Record) : Type 0 where
-  pub kept : torn .place + headLength + torn .frame ≤ lastPlace k m s
-      → OpensWith limit N lent s (lostTo k m s) (wholeIn (torn .place + lengthOf torn) rs)
+  pub keeps : torn .place + headLength + torn .frame ≤ lastPlace k m s
+      → LeftOpens limit N lent s (lostTo k m s) (wholeIn (torn .place + lengthOf torn) rs)
       (lossCut s (torn .place + lengthOf torn) (torn .place + lengthOf torn) m)
   pub fourteen : lastPlace k m s < torn .place + headLength + torn .frame
-      → RefusedWith limit N lent (lostTo k m s) (lasting s rs k m) 14 (torn .place)
+      → LeftRefused limit N lent (lostTo k m s) (lasting s rs k m) 14 (torn .place)
 
 abbrev pub MatchedLoss : Type 0
 MatchedLoss =
@@ -110,12 +110,12 @@ MatchedLoss =
 pub data AfterLoss (limit N : ℕ) (lent : List Entry) (s : List ℕ) (rs : List Record) (k m : ℕ) : Type 0 where
   opens : OpensLasting limit N lent s rs k m → AfterLoss limit N lent s rs k m
   eleven : Decides s rs k m → N * (12 + limit) < m - lastingEnd s rs k m
-      → RefusedWith limit N lent (lostTo k m s) (lasting s rs k m) 11 (lastingEnd s rs k m) → AfterLoss limit N lent s rs k m
-  kept : (x : Matched s rs k m)
-      → OpensWith limit N lent s (lostTo k m s) (wholeIn (x .torn .place + lengthOf (x .torn)) rs)
+      → LeftRefused limit N lent (lostTo k m s) (lasting s rs k m) 11 (lastingEnd s rs k m) → AfterLoss limit N lent s rs k m
+  keeps : (x : Matched s rs k m)
+      → LeftOpens limit N lent s (lostTo k m s) (wholeIn (x .torn .place + lengthOf (x .torn)) rs)
       (lossCut s (x .torn .place + lengthOf (x .torn)) (x .torn .place + lengthOf (x .torn)) m)
       → AfterLoss limit N lent s rs k m
-  fourteen : (x : Matched s rs k m) → RefusedWith limit N lent (lostTo k m s) (lasting s rs k m) 14 (x .torn .place) → AfterLoss limit N lent s rs k m
+  fourteen : (x : Matched s rs k m) → LeftRefused limit N lent (lostTo k m s) (lasting s rs k m) 14 (x .torn .place) → AfterLoss limit N lent s rs k m
 
 abbrev pub EveryLoss : Type 0
 EveryLoss =

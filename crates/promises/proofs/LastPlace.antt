@@ -1,4 +1,5 @@
--- The last place of a loss: the bytes left are the same, and where it isn't the new length, the byte that stood there isn't 0.
+-- The last place of a loss: the bytes left are the same; those between the place and it were 0, and where it isn't the new length, the byte that stood
+-- there isn't.
 -- Assumes nothing.
 use mathlib.Core.Path.{_≡_, refl, sym, ap, ap₂, _∙_}
 use mathlib.Core.Bool.{Bool, true, false}
@@ -10,6 +11,7 @@ use lib.ListN.{length, getD, take, drop, replicate, length-drop, replicate-appen
 use lib.Seq.{length-take-le, getD-take, getD-drop, take-take, take-add}
 use borrow.Author.Tests.{eqb-true, eqb-false}
 use Rattle.fields.specs.Fields.{pick}
+use Rattle.fields.proofs.Zeroed.{getD-zeros}
 use Rattle.promises.specs.Lost.{lostTo, zerosFirst, lastPlace}
 
 -- ---- the zeros at the start
@@ -80,3 +82,16 @@ module _ (k m : ℕ) (s : List ℕ) (h : k ≤ m) (l : m ≤ length s) where
       let z : ℕ = zerosFirst (take (m - k) (drop k s)) in
       let b : z < m - k = omega arith in
       first-ends (take (m - k) (drop k s)) (omega (arith, part-length)) (getD-take (m - k) (drop k s) z 0 b ∙ getD-drop k s z 0 ∙ e)
+
+  -- and what stood before it was 0
+  pub was-zero : (i : ℕ) → k ≤ i → i < lastPlace k m s → getD s i 0 ≡ 0
+  unfolding lastPlace
+  was-zero i a b =
+      let q : List ℕ = take (m - k) (drop k s) in
+      let z : ℕ = zerosFirst q in
+      let most = first-most q in
+      let n : k + (i - k) ≡ i = omega arith in
+      let c : getD q (i - k) 0 ≡ getD s i 0 =
+      getD-take (m - k) (drop k s) (i - k) 0 (omega (arith, part-length)) ∙ getD-drop k s (i - k) 0 ∙ ap (λ (v : ℕ). getD s v 0) n
+      in
+      sym c ∙ sym (getD-take z q (i - k) 0 (omega arith)) ∙ ap (λ (v : List ℕ). getD v (i - k) 0) (first-zeros q) ∙ getD-zeros z (i - k)

@@ -7,6 +7,7 @@ pub mod LossMatched
 pub mod LossOfChain
 pub mod LossOpens
 pub mod MatchOrNot
+pub mod OneMore
 pub mod PowerLoss
 pub mod Shortening
 pub mod TornRecord

@@ -5,9 +5,11 @@ use mathlib.Core.Bool.{Bool, true, false}
 use mathlib.Core.List.{List}
 use Prim.Native.Nat.{_+_, _*_, _-_, _≤_}
 use native.Mathlib.Omega.{arith}
+use native.Mathlib.Nat.{le-refl}
 use lib.ListN.{length}
 use lib.Dec.{leb}
 use borrow.Author.Tests.{leb-true, leb-false}
+use Rattle.prefix.specs.Prefix.{prefixLength}
 use Rattle.record.specs.declared.Record.{Record}
 use Rattle.journal.specs.declared.Rule.the-variants.{Tail}
 use Rattle.journal.specs.declared.Answer.the-variants.{Open}
@@ -20,7 +22,9 @@ use Rattle.promises.specs.Shortening.{wholeIn}
 use Rattle.promises.specs.Lost.{lostTo, lastPlace, lastingEnd, lossCut}
 use Rattle.promises.specs.PowerLoss.{LeftOpens, Enough, PowerLoss, UnsyncedLoss, LossBehindDurable, RefusedLoss, MatchedLoss, EveryLoss}
 use Rattle.promises.proofs.WholeRecords.{ends-later}
-use Rattle.promises.proofs.LossOfChain.{of-written, lasting-more}
+use Rattle.promises.proofs.LastPlace.{not-before, was-zero}
+use Rattle.promises.proofs.OneMore.{one-more}
+use Rattle.promises.proofs.LossOfChain.{of-written}
 use Rattle.promises.proofs.ChainLoss.{chain-loss, chain-unsynced, chain-eleven, chain-matched, chain-every}
 
 pub power-loss : PowerLoss
@@ -34,11 +38,18 @@ pub loss-behind-durable : LossBehindDurable
 unfolding opened
 loss-behind-durable limit N lent s rs w k m x near chance =
     let c = of-written limit (length lent) s rs k m w x in
-    let y = lasting-more limit (length lent) s rs k m c in
+    let a = not-before k m s (x .placeInside) (x .noLonger) in
+    let y = one-more limit k (lastPlace k m s) s a (was-zero k m s (x .placeInside) (x .noLonger)) (w .soundAlone) (le-refl prefixLength) in
     let b : durableEnd s ≤ lastingEnd s rs k m = omega (arith, c .pastDurable, ends-later (wholeIn k rs) (y .0), ap endOf (y .1)) in
     let o = chain-loss limit N lent s rs k m c (λ z. omega arith) chance in
     let cut = lossCut s (lastPlace k m s) (lastingEnd s rs k m) m in
-    (ap (λ (v : Scan). v .answer) (o .answer), (y .0, cut, subst (λ (v : List Record). LeftOpens limit N lent s (lostTo k m s) v cut) (y .1) o))
+    record {
+      isOpen = ap (λ (v : Scan). v .answer) (o .answer);
+      more = y .0;
+      oneMore = y .2;
+      cut = cut;
+      whole = subst (λ (v : List Record). LeftOpens limit N lent s (lostTo k m s) v cut) (y .1) o;
+    }
 
 pub refused-loss : RefusedLoss
 unfolding opened refused

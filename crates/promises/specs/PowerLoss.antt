@@ -69,13 +69,19 @@ UnsyncedLoss =
     (limit N : ℕ) (lent : List Entry) (s : List ℕ) (rs : List Record) → Written limit (length lent) s rs
     → (k m : ℕ) → LossAt s k m → lastStart N rs ≤ k → (Matched s rs k m → ⊥) → OpensLasting limit N lent s rs k m
 
--- by B alone: the bytes behind B are no more than N records can have. Tail opens, and keeps every record that ended at the place or before
+-- by B alone: the bytes behind B are no more than N records can have. Tail opens, and keeps every record that ended at the place or before; one more
+-- at most, whose lost bytes were 0 anyway
+pub record KeepsWhole (limit N : ℕ) (lent : List Entry) (s : List ℕ) (rs : List Record) (k m : ℕ) : Type 0 where
+  pub isOpen : scanOf limit (Tail N) (length lent) (lostTo k m s) .answer ≡ Open
+  pub more : List Record
+  pub oneMore : length more ≤ 1
+  pub cut : Cut
+  pub whole : LeftOpens limit N lent s (lostTo k m s) (wholeIn k rs ++ more) cut
+
 abbrev pub LossBehindDurable : Type 0
 LossBehindDurable =
     (limit N : ℕ) (lent : List Entry) (s : List ℕ) (rs : List Record) → Written limit (length lent) s rs
-    → (k m : ℕ) → LossAt s k m → m - durableEnd s ≤ N * (12 + limit) → (Matched s rs k m → ⊥)
-    → (scanOf limit (Tail N) (length lent) (lostTo k m s) .answer ≡ Open)
-    × ((more : List Record) × (cut : Cut) × LeftOpens limit N lent s (lostTo k m s) (wholeIn k rs ++ more) cut)
+    → (k m : ℕ) → LossAt s k m → m - durableEnd s ≤ N * (12 + limit) → (Matched s rs k m → ⊥) → KeepsWhole limit N lent s rs k m
 
 -- ---- what else is answered
 

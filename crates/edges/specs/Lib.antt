@@ -3,6 +3,7 @@ pub mod Edges
 pub mod Prefixes
 pub mod Records
 pub mod Journals
+pub mod Losses
 pub mod Answers
 pub mod Refuser
 pub mod HostWrites

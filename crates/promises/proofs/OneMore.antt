@@ -29,7 +29,7 @@ module _ (limit k j : ℕ) (s : List ℕ) (a : k ≤ j) (zeros : (i : ℕ) → k
   no-zero-head p r h b c e =
       let f = sound-is limit p (rest (behindPrefix s) p) r e .0 in
       let byte : (i : ℕ) → i < 8 → getD (rest (behindPrefix s) p) i 0 ≡ 0 = λ i g.
-          ap (λ (v : List ℕ). getD v i 0) (rest-drop s p h) ∙ getD-drop p s i 0 ∙ zeros (p + i) (omega arith) (omega arith)
+      ap (λ (v : List ℕ). getD v i 0) (rest-drop s p h) ∙ getD-drop p s i 0 ∙ zeros (p + i) (omega arith) (omega arith)
       in
       let u = le-zero 4 (rest (behindPrefix s) p) 0 (λ i x y. byte i (omega arith)) in
       let v = le-zero 4 (rest (behindPrefix s) p) 4 (λ i x y. byte i (omega arith)) in

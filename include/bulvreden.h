@@ -40,7 +40,7 @@ extern "C" {
 #define BULVREDEN_NO_SLOT 8         /* neither slot is sound */
 #define BULVREDEN_SLOTS_DIFFER 9    /* both slots have one generation and different contents */
 #define BULVREDEN_DURABLE_LOST 10   /* Tail: damage, or the journal's end, before the durable end */
-#define BULVREDEN_LENGTH_DAMAGED 11 /* Tail: a wrong complement, with more behind it than a power loss leaves */
+#define BULVREDEN_LENGTH_DAMAGED 11 /* Tail: a wrong complement, with more behind it than a power loss leaves; or N is too small */
 #define BULVREDEN_BODY_DAMAGED 12   /* Tail: a wrong CRC-32, with more behind it than a power loss leaves */
 #define BULVREDEN_BODY_LENGTH 13    /* Tail, Anywhere: a body length of 0 or above the body limit */
 #define BULVREDEN_BODY_UNREAD 14    /* Tail, Anywhere: a sound checksum over a body that doesn't read: kind, fields or type code */
@@ -120,8 +120,15 @@ struct bulvreden_found {
 };
 
 /* Reads a journal under a rule, and files its records in the lent index: one entry a message number, in the order in which they first
- * appear. A number met again replaces its entry. Entries past the count don't change. records counts for Tail alone: how many records a
- * power loss may have damaged, 1 for a host that writes one at a time. limit: the largest body, and no more than the maximum. */
+ * appear. A number met again replaces its entry. Entries past the count don't change. limit: the largest body, and no more than the
+ * maximum.
+ *
+ * records counts for Tail alone: as many as the host may have written since its last sync, the one that is being written among them; so 1
+ * for a host that syncs each one. A power loss shortens the journal, or shortens it and leaves zeros for its last bytes. With so many
+ * records Tail opens what is left, keeps every record that lasted whole, and cuts the rest. The one exception is a torn record whose body,
+ * with zeros for what was lost, by chance has the CRC-32 in its head: it is kept where its type code lasted, else refused with 14. With
+ * fewer records than that a loss inside a record's first eight bytes may be refused with 11. Shorten the file to end, and sync, before the
+ * next record is written. */
 struct bulvreden_found bulvreden_scan(const uint8_t *journal, size_t length, uint64_t kind, uint64_t records, uint64_t limit,
                                       struct bulvreden_entry *entries, size_t room);
 

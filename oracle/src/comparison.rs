@@ -68,7 +68,7 @@ fn told(first: Different, command: &[String]) -> String {
 }
 
 /// The place of the first byte that differs.
-fn first_difference(one: &[u8], other: &[u8]) -> usize {
+pub(crate) fn first_difference(one: &[u8], other: &[u8]) -> usize {
     one.iter().zip(other).position(|(one, other)| one != other).unwrap_or(one.len().min(other.len()))
 }
 
@@ -90,7 +90,7 @@ pub(crate) fn lines(found: &Different) -> String {
 }
 
 /// Bytes as hex; of many zeros in a row, how many there are.
-fn hex(bytes: &[u8]) -> String {
+pub(crate) fn hex(bytes: &[u8]) -> String {
     let mut text = String::new();
     let mut rest = bytes;
     while let Some(first) = rest.first() {

@@ -51,10 +51,8 @@ mod tests {
     use super::{edges, Says};
     use crate::operations::CHECK;
     use crate::restated::expected;
+    use crate::scan::CUT_AT;
     use std::collections::{BTreeSet, HashSet};
-
-    /// Where in a scan's answer the cut stands.
-    const CUT_AT: usize = 158;
 
     #[test]
     fn each_edge_is_as_the_document_says() {

@@ -6,12 +6,15 @@ mod checks;
 mod cursors;
 mod entries;
 mod fronts;
+mod losses;
 mod parts;
 mod records;
 mod rereads;
 mod scans;
 
 pub(crate) use checks::next_input as check_input;
+pub(crate) use losses::next as loss;
+pub(crate) use scans::ends;
 
 /// Makes the request of a turn.
 pub type Make = fn(&mut Numbers, usize) -> Vec<u8>;

@@ -15,6 +15,7 @@ pub mod every;
 pub mod frames;
 pub mod generate;
 mod layout;
+pub mod losses;
 pub mod operations;
 mod pieces;
 pub mod port;

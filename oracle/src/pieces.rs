@@ -59,6 +59,11 @@ pub(crate) fn body_5(number: u64, generation: u64, sender: u64, code: &[u8], fra
     [&[5], &words(&[number, generation, sender])[..], &code_and_frame(code, frame)].concat()
 }
 
+/// Where in a body the code's length stands; the code is behind it.
+pub(crate) fn code_length_at(body: &[u8]) -> usize {
+    if body[0] == 5 { 25 } else { 9 }
+}
+
 /// A record's header: a length and its complement, and a CRC-32.
 pub(crate) fn record_header(length: u32, crc: u32) -> Vec<u8> {
     [length, !length, crc].iter().flat_map(|number| number.to_le_bytes()).collect()

@@ -9,9 +9,10 @@ use crate::refusals;
 /// The highest body limit in the port's domain.
 pub(crate) const HIGHEST_BODY_LIMIT: u64 = 67_108_898;
 
-/// How many bytes an answer has for the result, and where in the answer the cut stands.
-const RESULT_LEN: usize = 208;
-const CUT_AT: usize = 158;
+/// How many bytes an answer has for the result, and where in the answer the cut and the boundary stand. The dropped bytes follow the cut.
+pub(crate) const RESULT_LEN: usize = 208;
+pub(crate) const CUT_AT: usize = 158;
+pub(crate) const BOUNDARY_AT: usize = 199;
 
 pub(crate) struct Request<'a> {
     pub(crate) rule: DamageRule,

@@ -7,6 +7,9 @@
 //! compare every COMMAND..: every truncation and every change of one byte of a small journal and its parts.
 //! compare every library COMMAND..: the scans and re-reads of them.
 //!
+//! compare losses SEED COUNT COMMAND..: journals that a power loss leaves with zeros at the end: each of small ones, and COUNT made from
+//! SEED. The original is held to a table first. Prints how many were compared, by line of the table.
+//!
 //! compare check SEED COUNT COMMAND..: COMMAND is the check program. It is started for each of COUNT inputs, made from SEED, gets it in
 //! pieces on its standard input, and must print the text.
 
@@ -14,6 +17,7 @@ use oracle::checking::compare_checks;
 use oracle::comparison::{compare, Counts};
 use oracle::every;
 use oracle::generate::{self, Make, Numbers};
+use oracle::losses::compare_losses;
 use std::process::ExitCode;
 
 fn main() -> ExitCode {
@@ -26,7 +30,7 @@ fn main() -> ExitCode {
     }
 }
 
-const USAGE: &str = "usage: compare [library|check] SEED COUNT COMMAND.. or compare every [library] COMMAND..";
+const USAGE: &str = "usage: compare [library|check|losses] SEED COUNT COMMAND.. or compare every [library] COMMAND..";
 
 fn number(word: Option<&String>) -> Result<u64, String> {
     word.and_then(|word| word.parse().ok()).ok_or_else(|| USAGE.to_string())
@@ -50,6 +54,17 @@ fn checks(words: &[String]) -> Result<Counts, String> {
     compare_checks(seed, count as usize, words.get(2..).unwrap_or_default())
 }
 
+/// Compares the journals that power losses leave.
+fn losses(words: &[String]) -> Result<(), String> {
+    let (seed, count) = (number(words.first())?, number(words.get(1))?);
+    let lines = compare_losses(seed, count, words.get(2..).unwrap_or_default())?;
+    for (line, count) in &lines {
+        println!("{}: {count}", line.name());
+    }
+    println!("{} losses compared, no difference", lines.values().sum::<u64>());
+    Ok(())
+}
+
 /// Whether the first word is this one, and then the words behind it.
 fn behind<'a>(words: &'a [String], word: &str) -> Option<&'a [String]> {
     words.split_first().and_then(|(first, rest)| (first == word).then_some(rest))
@@ -58,6 +73,9 @@ fn behind<'a>(words: &'a [String], word: &str) -> Option<&'a [String]> {
 fn run() -> Result<(), String> {
     let words: Vec<String> = std::env::args().skip(1).collect();
     let rest = words.get(1..).unwrap_or_default();
+    if let Some(words) = behind(&words, "losses") {
+        return losses(words);
+    }
     let counts = match words.first().map(String::as_str) {
         Some("library") => seeded(generate::library, rest)?,
         Some("check") => checks(rest)?,

@@ -2,7 +2,7 @@
 
 use super::records::flip;
 use super::Numbers;
-use crate::file::format::{encode_header, encode_slot, Header, Slot, DATA_START, SLOT_LEN, SLOT_OFFSETS};
+use crate::file::format::{encode_header, encode_slot, Header, Slot, SlotImages, DATA_START, SLOT_LEN, SLOT_OFFSETS};
 use crate::pieces::reseal;
 use std::time::UNIX_EPOCH;
 
@@ -72,16 +72,29 @@ fn other_slot(numbers: &mut Numbers, newest: &Slot) -> Slot {
     slot
 }
 
-/// Both slots' images, in either order. Mostly the newest sound one has the generation and the durable end.
-fn images(numbers: &mut Numbers, generation: u64, durable_end: u64) -> [[u8; SLOT_LEN]; 2] {
-    let newest = Slot {
+/// A slot with this generation and durable end.
+fn slot(numbers: &mut Numbers, generation: u64, durable_end: u64) -> Slot {
+    Slot {
         generation,
         next_sender: numbers.number(),
         next_target: numbers.number(),
         durable_end,
         app_watermark: numbers.number(),
         reset_owed: numbers.one_in(2),
-    };
+    }
+}
+
+/// The images as they are, or swapped.
+fn in_either_order(numbers: &mut Numbers, mut images: SlotImages) -> SlotImages {
+    if numbers.one_in(2) {
+        images.swap(0, 1);
+    }
+    images
+}
+
+/// Both slots' images, in either order. Mostly the newest sound one has the generation and the durable end.
+fn images(numbers: &mut Numbers, generation: u64, durable_end: u64) -> SlotImages {
+    let newest = slot(numbers, generation, durable_end);
     let mut other = other_slot(numbers, &newest);
     let wrong = numbers.below(24);
     // Not sound, and it would be the newest.
@@ -95,25 +108,53 @@ fn images(numbers: &mut Numbers, generation: u64, durable_end: u64) -> [[u8; SLO
     if matches!(wrong, 2..=3) {
         spoil_image(numbers, &mut images[0]);
     }
-    if numbers.one_in(2) {
-        images.swap(0, 1);
-    }
-    images
+    in_either_order(numbers, images)
 }
 
-/// The prefix of a journal, with zeros or anything in its filler.
-pub(super) fn prefix(numbers: &mut Numbers, generation: u64, durable_end: u64) -> Vec<u8> {
-    let mut bytes = match numbers.below(10) {
+/// Both slots' images, in either order: the newest sound one has the generation and the durable end, and the other is the same, older or
+/// not sound.
+fn sound_images(numbers: &mut Numbers, generation: u64, durable_end: u64) -> SlotImages {
+    let newest = slot(numbers, generation, durable_end);
+    let mut other = other_slot(numbers, &newest);
+    if other.generation == generation {
+        other = newest;
+    }
+    let mut images = [encode_slot(&newest), encode_slot(&other)];
+    if numbers.one_in(8) {
+        spoil_image(numbers, &mut images[1]);
+    }
+    in_either_order(numbers, images)
+}
+
+/// What stands around header and slots: zeros or anything.
+fn filler(numbers: &mut Numbers) -> Vec<u8> {
+    match numbers.below(10) {
         0 => numbers.bytes(DATA_START),
         _ => vec![0; DATA_START as usize],
-    };
+    }
+}
+
+/// Header and slots, put into the filler.
+fn filled(mut bytes: Vec<u8>, header: &[u8], images: &SlotImages) -> Vec<u8> {
+    bytes[..header.len()].copy_from_slice(header);
+    for (image, at) in images.iter().zip(SLOT_OFFSETS) {
+        bytes[at as usize..][..SLOT_LEN].copy_from_slice(image);
+    }
+    bytes
+}
+
+/// The prefix of a journal.
+pub(super) fn prefix(numbers: &mut Numbers, generation: u64, durable_end: u64) -> Vec<u8> {
+    let bytes = filler(numbers);
     let mut header = header(numbers);
     if numbers.one_in(20) {
         spoil_header(numbers, &mut header);
     }
-    bytes[..header.len()].copy_from_slice(&header);
-    for (image, at) in images(numbers, generation, durable_end).iter().zip(SLOT_OFFSETS) {
-        bytes[at as usize..][..SLOT_LEN].copy_from_slice(image);
-    }
-    bytes
+    filled(bytes, &header, &images(numbers, generation, durable_end))
+}
+
+/// The prefix of a journal that was written and not damaged.
+pub(super) fn sound_prefix(numbers: &mut Numbers, generation: u64, durable_end: u64) -> Vec<u8> {
+    let (bytes, header) = (filler(numbers), header(numbers));
+    filled(bytes, &header, &sound_images(numbers, generation, durable_end))
 }

@@ -4,7 +4,7 @@ use super::Numbers;
 use crate::file::format::{encode_frame_record_into, seal_frame_record, RECORD_HEADER_LEN};
 use crate::message::MsgType;
 use crate::operations::{BODY, HIGHEST_FRAME_LIMIT, RECORD, SEAL, SEEN};
-use crate::pieces::run;
+use crate::pieces::{code_length_at, run};
 use crate::scan::HIGHEST_BODY_LIMIT;
 
 /// What a good type code doesn't hold: bytes past either edge, UTF-8 of two bytes, and no UTF-8.
@@ -125,8 +125,7 @@ pub(super) fn seal(numbers: &mut Numbers) -> Vec<u8> {
 
 /// A good body with something changed that it is read by; some still read.
 fn spoil_body(numbers: &mut Numbers, body: &mut Vec<u8>) {
-    // Where the code's length stands, and the code behind it.
-    let at = if body[0] == 5 { 25 } else { 9 };
+    let at = code_length_at(body);
     let end = at + 1 + usize::from(body[at]);
     match numbers.below(6) {
         0 => body[0] = numbers.pick(&[0, 1, 2, 4, 5, 6, 255]),

@@ -3,10 +3,10 @@
 
 use super::records::{flip, good_code, set_length, spoil_record};
 use super::{fronts, Numbers};
+use crate::entries::Entry;
 use crate::file::format::{encode_frame_record_into, seal_frame_record, DATA_START, RECORD_HEADER_LEN};
 use crate::message::MsgType;
-use crate::operations::SCAN;
-use crate::pieces::run;
+use crate::pieces;
 use crate::scan::HIGHEST_BODY_LIMIT;
 use std::collections::HashSet;
 
@@ -17,7 +17,7 @@ const EARLY: [u64; 8] = [0, 43, 44, 45, 4096, 8192, 8243, DATA_START - 1];
 const LONGEST_STRETCH: u64 = 3000;
 
 /// A slot's generation, now and then one of the last.
-fn generation(numbers: &mut Numbers) -> u64 {
+pub(super) fn generation(numbers: &mut Numbers) -> u64 {
     match numbers.below(10) {
         0 => u64::MAX - numbers.below(5),
         1 => numbers.number(),
@@ -26,7 +26,7 @@ fn generation(numbers: &mut Numbers) -> u64 {
 }
 
 /// A way to number messages.
-fn message_numbers(numbers: &mut Numbers, count: u64) -> Vec<u64> {
+pub(super) fn message_numbers(numbers: &mut Numbers, count: u64) -> Vec<u64> {
     let way = numbers.below(7);
     let (first, step) = (numbers.pick(&[0, 1, 1, 255, (1 << 63) - 1, 1 << 63, u64::MAX, u64::MAX - 3]), numbers.pick(&[1, 1, 2, 256]));
     let mut made = Vec::new();
@@ -47,7 +47,7 @@ fn message_numbers(numbers: &mut Numbers, count: u64) -> Vec<u64> {
 }
 
 /// A way to number the generations of kind 5, around the slot's.
-fn generations(numbers: &mut Numbers, slot: u64, count: u64) -> Vec<u64> {
+pub(super) fn generations(numbers: &mut Numbers, slot: u64, count: u64) -> Vec<u64> {
     let way = numbers.below(7);
     let one = |turn| match way {
         0 | 1 => slot.saturating_add(1 + turn),
@@ -101,7 +101,7 @@ fn body_limit(numbers: &mut Numbers, longest: u64) -> u64 {
 }
 
 /// How many records Tail excuses: few, or so many that the window is as long as a number can say, or longer.
-fn window_records(numbers: &mut Numbers, limit: u64) -> u64 {
+pub(super) fn window_records(numbers: &mut Numbers, limit: u64) -> u64 {
     let most = u64::MAX / limit.saturating_add(12);
     match numbers.below(12) {
         0..=2 => 0,
@@ -209,18 +209,14 @@ fn room(numbers: &mut Numbers, needed: u64) -> u64 {
 }
 
 /// A lent index: zeros, anything, or entries under the numbers of the journal's own messages.
-fn index(numbers: &mut Numbers, room: u64, known: &[u64]) -> Vec<u8> {
+pub(super) fn lent(numbers: &mut Numbers, room: u64, known: &[u64]) -> Vec<Entry> {
     let way = numbers.below(3);
-    let mut bytes = (room as u32).to_le_bytes().to_vec();
-    for _ in 0..room {
-        let entry = match way {
-            0 => [0; 3],
-            1 => [numbers.next(), numbers.next(), numbers.next()],
-            _ => [numbers.pick(known), DATA_START, numbers.below(100)],
-        };
-        bytes.extend(entry.iter().flat_map(|number| number.to_le_bytes()));
-    }
-    bytes
+    let entry = |_| match way {
+        0 => [0; 3],
+        1 => [numbers.next(), numbers.next(), numbers.next()],
+        _ => [numbers.pick(known), DATA_START, numbers.below(100)],
+    };
+    (0..room).map(entry).collect()
 }
 
 /// Zeros in a range of a journal's records: to the end, or some of them.
@@ -276,7 +272,7 @@ fn records(numbers: &mut Numbers, slot: u64, known: &[u64]) -> (Vec<Vec<u8>>, Ve
 }
 
 /// Where records end, one after the other, from 12,288 on.
-fn ends(records: &[Vec<u8>]) -> Vec<u64> {
+pub(crate) fn ends(records: &[Vec<u8>]) -> Vec<u64> {
     let mut ends = vec![DATA_START];
     for record in records {
         ends.push(ends[ends.len() - 1] + record.len() as u64);
@@ -312,10 +308,5 @@ pub(super) fn made(numbers: &mut Numbers) -> Made {
 pub fn request(numbers: &mut Numbers, turn: usize) -> Vec<u8> {
     let Made { window_records, limit, journal, known, needed } = made(numbers);
     let room = room(numbers, needed);
-    let mut request = vec![SCAN, 1 + (turn % 3) as u8];
-    request.extend_from_slice(&window_records.to_le_bytes());
-    request.extend_from_slice(&limit.to_le_bytes());
-    request.extend(index(numbers, room, &known));
-    request.extend(run(&journal));
-    request
+    pieces::scan(1 + (turn % 3) as u8, window_records, limit, &lent(numbers, room, &known), &journal)
 }

@@ -44,7 +44,7 @@ fn is_sealed(record: &[u8]) -> bool {
 
 /// Bodies that are shorter than a body, or have more zeros, and may still read.
 fn smaller_bodies(body: &[u8]) -> Vec<Vec<u8>> {
-    let code_at = if body[0] == 5 { 25 } else { 9 };
+    let code_at = pieces::code_length_at(body);
     let mut bodies = Vec::new();
     // The frame: none, half of it, one byte less.
     let code = body.get(code_at).map_or(0, |length| usize::from(*length));

@@ -123,12 +123,12 @@ struct bulvreden_found {
  * appear. A number met again replaces its entry. Entries past the count don't change. limit: the largest body, and no more than the
  * maximum.
  *
- * records counts for Tail alone: as many as the host may have written since its last sync, the one that is being written among them; so 1
- * for a host that syncs each one. A power loss shortens the journal, or shortens it and leaves zeros for its last bytes. With so many
- * records Tail opens what is left, keeps every record that lasted whole, and cuts the rest. The one exception is a torn record whose body,
- * with zeros for what was lost, by chance has the CRC-32 in its head: it is kept where its type code lasted, else refused with 14. With
- * fewer records than that a loss inside a record's first eight bytes may be refused with 11. Shorten the file to end, and sync, before the
- * next record is written. */
+ * records counts for Tail alone: as many as the host may have written since its last sync, the one that is being written among them; so
+ * 1 for a host that syncs each one. A power loss shortens the journal, or leaves zeros for its last bytes, or both. With so many
+ * records Tail opens what is left, keeps every record that lasted whole, and cuts the rest. The one exception is a torn record whose
+ * body, with zeros for what was lost, by chance has the CRC-32 in its head: it is kept where its type code lasted, else refused with
+ * 14. With fewer records than that a loss inside a record's first eight bytes may be refused with 11. Shorten the file to end, and
+ * sync, before the next record is written. */
 struct bulvreden_found bulvreden_scan(const uint8_t *journal, size_t length, uint64_t kind, uint64_t records, uint64_t limit,
                                       struct bulvreden_entry *entries, size_t room);
 

@@ -3,7 +3,7 @@
 -- Assumes nothing.
 use mathlib.Core.Path.{_≡_, sym, ap, subst, _∙_}
 use mathlib.Core.List.{List, _++_, append-assoc}
-use mathlib.Core.Logic.{_⊎_}
+use mathlib.Core.Logic.{_⊎_, inl, inr}
 use Prim.Native.Nat.{ℕ, _+_, _-_, _≤_, _<_}
 use native.Mathlib.Omega.{arith}
 use native.Mathlib.Nat.{le-refl}
@@ -21,12 +21,13 @@ use Rattle.index.specs.Entries.{numbersOf, entriesOf, overlay}
 use Rattle.index.proofs.Filing.{numbers-le}
 use Rattle.journal.specs.declared.Rule.the-variants.{Tail}
 use Rattle.journal.specs.declared.Cut.{Cut}
+use Rattle.journal.specs.declared.Cut.the-variants.{None}
 use Rattle.journal.specs.Walk.{rest, standsAt, Chain, Reading, endOf}
 use Rattle.journal.specs.Walked.{refusedAt, stopAt}
 use Rattle.journal.specs.Front.{Front, frontOf, slotIn}
 use Rattle.journal.specs.Counters.{highest}
-use Rattle.journal.specs.Scan.{opened, answerBy, scanOf, filedIn, indexAfter}
-use Rattle.journal.specs.Permitted.{Complete, Excused, cutAt}
+use Rattle.journal.specs.Scan.{answerBy, filedIn, indexAfter}
+use Rattle.journal.specs.Permitted.{Reason, Complete, Excused, cutAt}
 use Rattle.journal.specs.Demand3.{behindPrefix, durableEnd, SoundFront, Premises}
 use Rattle.journal.proofs.Chains.{chain-found, chain-front}
 use Rattle.journal.proofs.Counters.{highest-append}
@@ -169,14 +170,18 @@ module _ (limit N : ℕ) (lent : List Entry) (s : List ℕ) (rs : List Record) (
         (ap (λ (v : List Record). overlay (entriesOf v) lent) (all-kept limit (length lent) (behindPrefix bytes) filed (st .chain) (st .stands)))
 
     -- it is a permitted end
-    pub opens-by : (d : Complete (durableEnd bytes) (behindPrefix bytes) p ⊎ Excused limit N (durableEnd bytes) (behindPrefix bytes) p) (cut : Cut) → cutAt d ≡ cut
-        → LeftOpens limit N lent s bytes us cut
-    opens-by d cut q =
+    opens-by : (d : Complete (durableEnd bytes) (behindPrefix bytes) p ⊎ Excused limit N (durableEnd bytes) (behindPrefix bytes) p) → LeftOpens limit N lent s bytes us (cutAt d)
+    opens-by d =
         let o = demand3 limit N (length lent) bytes premises .whole (record { records = us; chain = st .chain; tail = d }) in
-        record {
-          answer = subst (λ (u : Cut). scanOf limit (Tail N) (length lent) bytes ≡ opened (frontOf s) us u) q (rw front-is at o);
-          index = index-is;
-        }
+        record { answer = rw front-is at o; index = index-is }
+
+    pub whole-by : durableEnd bytes ≤ p → length (rest (behindPrefix bytes) p) ≡ 0 → LeftOpens limit N lent s bytes us None
+    whole-by b n = opens-by (inl (record { notBelow = b; noneRemain = n }))
+
+    pub cut-by : {cut : Cut} → durableEnd bytes ≤ p → 0 < length (rest (behindPrefix bytes) p) → Reason limit N (rest (behindPrefix bytes) p) row cut
+        → LeftOpens limit N lent s bytes us cut
+    cut-by {cut} b some reason =
+        opens-by (inr (record { row = row; cut = cut; notBelow = b; someRemain = some; firstRow = st .stands; reason = reason }))
 
     -- it is none
     pub refused-by : (n : ℕ) → stopAt limit (Tail N) (durableEnd bytes) (behindPrefix bytes) p row ≡ refusedAt n p → LeftRefused limit N lent bytes us n p

@@ -4,7 +4,6 @@
 use mathlib.Core.Path.{_≡_, refl, sym, ap, subst, _∙_}
 use mathlib.Core.Bool.{Bool, true, false}
 use mathlib.Core.List.{List, [], _∷_, _++_}
-use mathlib.Core.Logic.{inl, inr}
 use Prim.Native.Nat.{ℕ, _+_, _-_, _≤_, _<_}
 use native.Mathlib.Omega.{arith}
 use lib.ListN.{length, getD, drop, length-drop}
@@ -15,7 +14,8 @@ use Rattle.crc32.specs.Crc.{crcOf}
 use Rattle.fields.proofs.Zeroed.{le-zero, zeroed, drop-zeroed, lost}
 use Rattle.prefix.specs.Prefix.{prefixLength}
 use Rattle.record.specs.declared.Record.{Record}
-use Rattle.record.specs.declared.Row.the-variants.{Under12, ComplementWrong, BodyUnread}
+use Rattle.record.specs.declared.Row.{Row}
+use Rattle.record.specs.declared.Row.the-variants.{ComplementWrong, BodyUnread}
 use Rattle.record.specs.declared.Seen.the-variants.{Sound, Fault}
 use Rattle.record.specs.Seen.{headLength, crcField, bodyIn, seen}
 use Rattle.record.proofs.SoundBoth.{under-12, complement-wrong}
@@ -23,11 +23,12 @@ use Rattle.record.proofs.Chance.{matched-kept, matched-unread}
 use Rattle.index.specs.declared.Entry.{Entry}
 use Rattle.index.specs.Entries.{lengthOf, bytesOf}
 use Rattle.journal.specs.declared.Rule.the-variants.{Tail}
+use Rattle.journal.specs.declared.Cut.{Cut}
 use Rattle.journal.specs.declared.Cut.the-variants.{Incomplete, Damaged}
 use Rattle.journal.specs.Walk.{rest, standsAt, Chain, endOf}
 use Rattle.journal.specs.Table.{tableOf, cellIn}
 use Rattle.journal.specs.Walked.{refusedAt, stopAt}
-use Rattle.journal.specs.Permitted.{headTorn, complementZeros}
+use Rattle.journal.specs.Permitted.{Reason, headTorn, complementZeros}
 use Rattle.journal.specs.Demand3.{behindPrefix, durableEnd}
 use Rattle.journal.proofs.Chains.{within, empty-under, chain-snoc}
 use Rattle.promises.specs.Shortening.{wholeIn}
@@ -36,7 +37,7 @@ use Rattle.promises.specs.PowerLoss.{LeftOpens, LeftRefused}
 use Rattle.promises.proofs.WholeRecords.{whole-part, chain-split, whole-before, whole-through}
 use Rattle.promises.proofs.LossOfChain.{LossOfChain, no-longer}
 use Rattle.promises.proofs.TornRecord.{cut-none, cut-few, cut-head}
-use Rattle.promises.proofs.LeftBytes.{rest-drop, end-past, durable-is, chain-is, inside, rest-is, rest-length, first-lasted, StopsAt, opens-by, refused-by}
+use Rattle.promises.proofs.LeftBytes.{rest-drop, end-past, durable-is, chain-is, inside, rest-is, rest-length, first-lasted, StopsAt, whole-by, cut-by, refused-by}
 
 -- a body that doesn't read is 14 under Tail, wherever it stands
 body-cell : (limit N B : ℕ) (t : List ℕ) (e : ℕ) → 0 < length (rest t e) → stopAt limit (Tail N) B t e BodyUnread ≡ refusedAt 14 e
@@ -170,53 +171,33 @@ module _ (limit N : ℕ) (lent : List Entry) (s : List ℕ) (rs : List Record) (
     abbrev Claim : Type 0
     Claim = LeftOpens limit N lent s bytes (wholeIn u rs) (lossCut s u u m)
 
+    stops : {row : Row} → seen limit u (rest (behindPrefix bytes) u) ≡ Fault row → StopsAt limit N lent s rs k m x (wholeIn u rs) u row
+    unfolding standsAt
+    stops v = record { chain = through; first = whole-part limit u (behindPrefix s) (x .chain); stands = v }
+
     nothing-behind : m ≡ u → Claim
+    unfolding standsAt
     nothing-behind i =
         let n : length (rest (behindPrefix bytes) u) ≡ 0 = omega (arith, length-there) in
-        let there : StopsAt limit N lent s rs k m x (wholeIn u rs) u Under12 =
-        record { chain = through; first = whole-part limit u (behindPrefix s) (x .chain); stands = empty-under limit (behindPrefix bytes) u n }
-        in
-        opens-by limit N lent s rs k m x there (inl (record { notBelow = durable-there; noneRemain = n })) _ (sym (cut-none s u u m i))
+        subst (LeftOpens limit N lent s bytes (wholeIn u rs)) (sym (cut-none s u u m i))
+        (whole-by limit N lent s rs k m x (stops (empty-under limit (behindPrefix bytes) u n)) durable-there n)
+
+    some-behind : {row : Row} {cut : Cut} → eqb m u ≡ false → seen limit u (rest (behindPrefix bytes) u) ≡ Fault row
+        → Reason limit N (rest (behindPrefix bytes) u) row cut → cut ≡ lossCut s u u m → Claim
+    some-behind z v reason q =
+        let n : m ≡ u → ⊥ = eqb-false m u z in
+        subst (LeftOpens limit N lent s bytes (wholeIn u rs)) q
+        (cut-by limit N lent s rs k m x (stops v) durable-there (omega (arith, length-there, c .ends)) reason)
 
     few-behind : eqb m u ≡ false → ltb m (u + headLength) ≡ true → Claim
-    unfolding standsAt
     few-behind z y =
-        let n : m ≡ u → ⊥ = eqb-false m u z in
-        let v : seen limit u (rest (behindPrefix bytes) u) ≡ Fault Under12 =
-        under-12 limit u (rest (behindPrefix bytes) u) (omega (arith, length-there, ltb-true m (u + headLength) y))
-        in
-        let there : StopsAt limit N lent s rs k m x (wholeIn u rs) u Under12 =
-        record { chain = through; first = whole-part limit u (behindPrefix s) (x .chain); stands = v }
-        in
-        opens-by limit N lent s rs k m x there
-        (inr (record {
-          row = Under12;
-          cut = _;
-          notBelow = durable-there;
-          someRemain = omega (arith, length-there, c .ends);
-          firstRow = v;
-          reason = headTorn;
-        })) _ (ap Incomplete length-there ∙ sym (cut-few s u u m z y))
+        some-behind z (under-12 limit u (rest (behindPrefix bytes) u) (omega (arith, length-there, ltb-true m (u + headLength) y)))
+        headTorn (ap Incomplete length-there ∙ sym (cut-few s u u m z y))
 
     more-behind : eqb m u ≡ false → ltb m (u + headLength) ≡ false → Claim
-    unfolding standsAt
     more-behind z y =
-        let n : m ≡ u → ⊥ = eqb-false m u z in
-        let v : seen limit u (rest (behindPrefix bytes) u) ≡ Fault ComplementWrong =
-        zeros-seen limit u (rest (behindPrefix bytes) u) (omega (arith, length-there, ltb-false m (u + headLength) y)) zeros-there
-        in
-        let there : StopsAt limit N lent s rs k m x (wholeIn u rs) u ComplementWrong =
-        record { chain = through; first = whole-part limit u (behindPrefix s) (x .chain); stands = v }
-        in
-        opens-by limit N lent s rs k m x there
-        (inr (record {
-          row = ComplementWrong;
-          cut = _;
-          notBelow = durable-there;
-          someRemain = omega (arith, length-there, c .ends);
-          firstRow = v;
-          reason = complementZeros (λ i f g. zeros-there i);
-        })) _ (ap Damaged length-there ∙ sym (cut-head s u u m z y (lt-ltb u (u + 8) (omega arith))))
+        some-behind z (zeros-seen limit u (rest (behindPrefix bytes) u) (omega (arith, length-there, ltb-false m (u + headLength) y)) zeros-there)
+        (complementZeros (λ i f g. zeros-there i)) (ap Damaged length-there ∙ sym (cut-head s u u m z y (lt-ltb u (u + 8) (omega arith))))
 
     pub kept-opens : Claim
     kept-opens = first (eqb m u) refl

@@ -1,7 +1,7 @@
 -- At the last place of a loss: what is left opens with the records that lasted where N is enough and no CRC matches by chance; where a head lasted in
 -- part and N isn't enough, it is 11.
 -- Assumes nothing.
-use mathlib.Core.Path.{_≡_, refl, sym, ap, _∙_}
+use mathlib.Core.Path.{_≡_, refl, sym, ap, subst, _∙_}
 use mathlib.Core.Bool.{Bool, true, false}
 use mathlib.Core.List.{List}
 use mathlib.Core.Logic.{_⊎_, inl, inr}
@@ -34,7 +34,7 @@ use Rattle.promises.specs.PowerLoss.{LeftOpens, LeftRefused}
 use Rattle.promises.proofs.LossOfChain.{LossOfChain, no-longer}
 use Rattle.promises.proofs.Lasted.{Torn}
 use Rattle.promises.proofs.TornRecord.{cut-none, head-row, cutting}
-use Rattle.promises.proofs.LeftBytes.{end-past, small, durable-is, chain-is, inside, then-is, stood-is, rest-is, rest-length, first-lasted, StopsAt, opens-by, refused-by}
+use Rattle.promises.proofs.LeftBytes.{end-past, small, durable-is, chain-is, inside, then-is, stood-is, rest-is, rest-length, first-lasted, StopsAt, whole-by, cut-by, refused-by}
 
 -- a byte isn't 0
 not-zeros : (v : List ℕ) (i : ℕ) → i < length v → (getD v i 0 ≡ 0 → ⊥) → allZero v ≡ false
@@ -83,7 +83,8 @@ module _ (limit N : ℕ) (lent : List Entry) (s : List ℕ) (rs : List Record) (
         let there : StopsAt limit N lent s rs k m x (wholeIn k rs) e Under12 =
         record { chain = chain-is limit N lent s rs k m x; first = first-lasted limit N lent s rs k m x; stands = empty-under limit (behindPrefix bytes) e n }
         in
-        opens-by limit N lent s rs k m x there (inl (record { notBelow = durable-is limit N lent s rs k m x; noneRemain = n })) _ (sym (cut-none s k e m i))
+        subst (LeftOpens limit N lent s bytes (wholeIn k rs)) (sym (cut-none s k e m i))
+        (whole-by limit N lent s rs k m x there (durable-is limit N lent s rs k m x) n)
 
     -- the record that was torn doesn't match
     no-match : (y : Torn limit k m (behindPrefix s) rs e) → e + 8 ≤ k → e + lengthOf (y .torn) ≤ m
@@ -114,15 +115,8 @@ module _ (limit N : ℕ) (lent : List Entry) (s : List ℕ) (rs : List Record) (
         let there : StopsAt limit N lent s rs k m x (wholeIn k rs) e (c .row) =
         record { chain = chain-is limit N lent s rs k m x; first = first-lasted limit N lent s rs k m x; stands = row-there }
         in
-        opens-by limit N lent s rs k m x there
-        (inr (record {
-          row = c .row;
-          cut = c .cut;
-          notBelow = durable-is limit N lent s rs k m x;
-          someRemain = omega (arith, left-there, in-k, x .placeInside);
-          firstRow = row-there;
-          reason = rw (rest-is limit N lent s rs k m x) (c .reason);
-        })) _ (c .cut-is)
+        subst (LeftOpens limit N lent s bytes (wholeIn k rs)) (c .cut-is)
+        (cut-by limit N lent s rs k m x there (durable-is limit N lent s rs k m x) (omega (arith, left-there, in-k, x .placeInside)) (rw (rest-is limit N lent s rs k m x) (c .reason)))
 
     pub opens-lasting : Claim
     opens-lasting = go (eqb m e) refl (then-is limit N lent s rs k m x)

@@ -112,7 +112,7 @@ static int make(const char *path) {
 
 /* ---- reading */
 
-/* Tail: what a loss of power leaves is cut, and nothing else. One record: each is on stable storage before the next is written. */
+/* Tail: what a loss of power can have left is cut, and nothing else. One record: each is on stable storage before the next is written. */
 static struct bulvreden_found scan(size_t length) {
     return bulvreden_scan(journal, length, BULVREDEN_TAIL, 1, BODY_LIMIT, entries, MESSAGES);
 }
@@ -194,10 +194,11 @@ static int commit(int file, struct bulvreden_found *now) {
     return 0;
 }
 
-/* What a scan cut off goes first, and for good: behind a shorter record its rest would look like damage. */
+/* What a scan cut off goes first, and for good: behind a shorter record its rest would look like damage. The sync is also for a host that
+ * was started again without a loss of power: a record that it wrote before, and didn't sync, would be a second one that can be torn. */
 static int cut(int file, const struct bulvreden_found *now) {
-    if (now->cut == BULVREDEN_CUT_NONE) return 0;
-    return ftruncate(file, (off_t)now->end) == 0 && fsync(file) == 0 ? 0 : wrong("the file can't be cut");
+    if (now->cut != BULVREDEN_CUT_NONE && ftruncate(file, (off_t)now->end) != 0) return wrong("the file can't be cut");
+    return fsync(file) == 0 ? 0 : wrong("the file can't be synced");
 }
 
 /* Whether no more message can be filed. The next scan must find room in its index, and a generation after those of the record and the

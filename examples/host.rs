@@ -307,7 +307,7 @@ fn open(path: &Path, journal: &mut [u8]) -> Result<File, Failed> {
 
 // ---- reading
 
-/// Tail: what a loss of power leaves is cut, and nothing else. One record: each is on stable storage before the next is written.
+/// Tail: what a loss of power can have left is cut, and nothing else. One record: each is on stable storage before the next is written.
 fn scan(journal: &[u8], entries: &mut [Entry]) -> Result<Found, Failed> {
     library::scan(journal, library::TAIL, 1, BODY_LIMIT, entries)
 }
@@ -404,12 +404,13 @@ fn commit(file: &File, now: &mut Found) -> Result<(), Failed> {
     Ok(())
 }
 
-/// What a scan cut off goes first, and for good: behind a shorter record its rest would look like damage.
+/// What a scan cut off goes first, and for good: behind a shorter record its rest would look like damage. The sync is also for a host that
+/// was started again without a loss of power: a record that it wrote before, and didn't sync, would be a second one that can be torn.
 fn cut(file: &File, now: &Found) -> Result<(), Failed> {
-    if now.cut == library::CUT_NONE {
-        return Ok(());
+    if now.cut != library::CUT_NONE {
+        file.set_len(now.end).map_err(wrong("the file can't be cut"))?;
     }
-    file.set_len(now.end).and_then(|()| file.sync_all()).map_err(wrong("the file can't be cut"))
+    file.sync_all().map_err(wrong("the file can't be synced"))
 }
 
 /// Whether no more message can be filed. The next scan must find room in its index, and a generation after those of the record and the

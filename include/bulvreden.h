@@ -40,7 +40,7 @@ extern "C" {
 #define BULVREDEN_NO_SLOT 8         /* neither slot is sound */
 #define BULVREDEN_SLOTS_DIFFER 9    /* both slots have one generation and different contents */
 #define BULVREDEN_DURABLE_LOST 10   /* Tail: damage, or the journal's end, before the durable end */
-#define BULVREDEN_LENGTH_DAMAGED 11 /* Tail: a wrong complement, with more behind it than a power loss leaves; or N is too small */
+#define BULVREDEN_LENGTH_DAMAGED 11 /* Tail: a wrong complement, with more behind it than a power loss leaves; or records is too small */
 #define BULVREDEN_BODY_DAMAGED 12   /* Tail: a wrong CRC-32, with more behind it than a power loss leaves */
 #define BULVREDEN_BODY_LENGTH 13    /* Tail, Anywhere: a body length of 0 or above the body limit */
 #define BULVREDEN_BODY_UNREAD 14    /* Tail, Anywhere: a sound checksum over a body that doesn't read: kind, fields or type code */
@@ -65,7 +65,7 @@ extern "C" {
 /* ---- reading */
 
 /* The kinds of a rule. */
-#define BULVREDEN_TAIL 1     /* opens what a power loss leaves, and nothing else: for a unit that boots alone */
+#define BULVREDEN_TAIL 1     /* drops what a power loss can have left, and nothing else: for a unit that boots alone */
 #define BULVREDEN_ANYWHERE 2 /* drops everything from the first damage on */
 #define BULVREDEN_SALVAGE 3  /* the same also for a bad length and an unread body: for a person who saves what can be saved */
 
@@ -126,9 +126,9 @@ struct bulvreden_found {
  * records counts for Tail alone: as many as the host may have written since its last sync, the one that is being written among them; so
  * 1 for a host that syncs each one. A power loss shortens the journal, or leaves zeros for its last bytes, or both. With so many
  * records Tail opens what is left, keeps every record that lasted whole, and cuts the rest. The one exception is a torn record whose
- * body, with zeros for what was lost, by chance has the CRC-32 in its head: it is kept where its type code lasted, else refused with
- * 14. With fewer records than that a loss inside a record's first eight bytes may be refused with 11. Shorten the file to end, and
- * sync, before the next record is written. */
+ * body, with zeros for what was lost, by chance has the CRC-32 that its head then has: it is kept where its type code lasted, else
+ * refused with 14. With fewer records than that a loss inside a record's first eight bytes may be refused with 11. Shorten the file to
+ * end, and sync, before the next record is written. */
 struct bulvreden_found bulvreden_scan(const uint8_t *journal, size_t length, uint64_t kind, uint64_t records, uint64_t limit,
                                       struct bulvreden_entry *entries, size_t room);
 

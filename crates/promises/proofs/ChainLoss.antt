@@ -8,21 +8,21 @@ use mathlib.Core.Logic.{_⊎_, inl, inr}
 use Prim.Native.Nat.{ℕ, _+_, _*_, _-_, _≤_, _<_}
 use native.Mathlib.Omega.{arith}
 use lib.ListN.{length, getD}
-use lib.Dec.{leb, ltb}
-use borrow.Author.Tests.{leb-true, leb-false, ltb-true, ltb-false}
+use lib.Dec.{leb}
+use borrow.Author.Tests.{leb-true, leb-false}
 use Rattle.record.specs.declared.Record.{Record}
-use Rattle.record.specs.Seen.{headLength}
 use Rattle.index.specs.declared.Entry.{Entry}
 use Rattle.index.specs.Entries.{lengthOf}
 use Rattle.journal.specs.Walk.{endOf}
 use Rattle.journal.specs.Demand3.{behindPrefix}
+use Rattle.promises.specs.LossOfChain.{LossOfChain}
 use Rattle.promises.specs.Shortening.{wholeIn}
 use Rattle.promises.specs.Lost.{lostTo, lastPlace, lasting, lastingEnd, lossCut}
-use Rattle.promises.specs.PowerLoss.{LeftOpens, LeftRefused, OpensLasting, Decides, Enough, Matched, lastStart, AfterMatch, AfterLoss, opens, eleven, keeps, fourteen}
+use Rattle.promises.specs.PowerLoss.{LeftOpens, LeftRefused, OpensLasting, Decides, Enough, Matched, lastStart, AfterMatch, AfterLoss, opens, eleven, matched}
 use Rattle.promises.proofs.WholeRecords.{ends-later}
 use Rattle.promises.proofs.LastPlace.{same-left, was-lost}
 use Rattle.promises.proofs.LastRecords.{last-most, before-last}
-use Rattle.promises.proofs.LossOfChain.{LossOfChain, no-longer, lasting-more, at-last}
+use Rattle.promises.proofs.LossOfChain.{no-longer, lasting-more, at-last}
 use Rattle.promises.proofs.LossOpens.{opens-lasting}
 use Rattle.promises.proofs.LossOpens as at-a-head
 use Rattle.promises.proofs.LossMatched.{kept-opens}
@@ -63,7 +63,7 @@ module _ (limit N : ℕ) (lent : List Entry) (s : List ℕ) (rs : List Record) (
       subst (λ (v : List ℕ). LeftRefused limit N lent v (lasting s rs k m) 11 (lastingEnd s rs k m)) (sym same)
       (at-a-head.eleven limit N lent s rs (lastPlace k m s) m last lost-there part far)
 
-  -- a chance match: the record is kept, or 14
+  -- a chance match: the record is kept, or it is 14
   pub chain-matched : (c : Matched s rs k m) → AfterMatch limit N lent s rs k m (c .torn)
   chain-matched c =
       let u = c .torn .place + lengthOf (c .torn) in
@@ -80,10 +80,6 @@ module _ (limit N : ℕ) (lent : List Entry) (s : List ℕ) (rs : List Record) (
   pub chain-every : AfterLoss limit N lent s rs k m
   chain-every = go (match-or-not s (lastPlace k m s) m rs)
     where
-      by-code : (c : Matched s rs k m) (b : Bool) → ltb (lastPlace k m s) (c .torn .place + headLength + c .torn .frame) ≡ b → AfterLoss limit N lent s rs k m
-      by-code c true q = fourteen c (chain-matched c .fourteen (ltb-true (lastPlace k m s) (c .torn .place + headLength + c .torn .frame) q))
-      by-code c false q = keeps c (chain-matched c .keeps (ltb-false (lastPlace k m s) (c .torn .place + headLength + c .torn .frame) q))
-
       by-head : (Matched s rs k m → ⊥) → N * (12 + limit) < m - lastingEnd s rs k m → Decides s rs k m ⊎ (Decides s rs k m → ⊥) → AfterLoss limit N lent s rs k m
       by-head chance far (inl part) = eleven part far (chain-eleven part far)
       by-head chance far (inr none) = opens (chain-loss (λ part. absurd (none part)) chance)
@@ -94,5 +90,5 @@ module _ (limit N : ℕ) (lent : List Entry) (s : List ℕ) (rs : List Record) (
           by-head chance (leb-false (m - lastingEnd s rs k m) (N * (12 + limit)) q) (head-or-not s (lastPlace k m s) (lastingEnd s rs k m) m)
 
       go : Matched s rs k m ⊎ (Matched s rs k m → ⊥) → AfterLoss limit N lent s rs k m
-      go (inl c) = by-code c (ltb (lastPlace k m s) (c .torn .place + headLength + c .torn .frame)) refl
+      go (inl c) = matched c (chain-matched c)
       go (inr chance) = by-length chance (leb (m - lastingEnd s rs k m) (N * (12 + limit))) refl

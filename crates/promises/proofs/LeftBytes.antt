@@ -1,5 +1,5 @@
--- The bytes that a loss leaves, as a journal: the front is the one that was written, and the records that lasted lead to their end. Where records lead
--- to a place at which none stands, what the scan answers there is what it answers.
+-- The bytes that a loss leaves, as a journal: the front is the one that was written, and the records that lasted lead to their end. Where the first
+-- records lead to a place at which none stands, the scan's answer is the one of that place.
 -- Assumes nothing.
 use mathlib.Core.Path.{_≡_, sym, ap, subst, _∙_}
 use mathlib.Core.List.{List, _++_, append-assoc}
@@ -34,11 +34,12 @@ use Rattle.journal.proofs.Counters.{highest-append}
 use Rattle.journal.proofs.FromChains.{end-is, all-filed, all-kept, scanned, behind-front}
 use Rattle.journal.proofs.SoundFronts.{zero-same, one-same, front-same, front-passes, front-stays, front-back}
 use Rattle.journal.proofs.Opens.{demand3}
+use Rattle.promises.specs.LossOfChain.{LossOfChain}
 use Rattle.promises.specs.Shortening.{wholeIn}
 use Rattle.promises.specs.Lost.{lostTo}
 use Rattle.promises.specs.PowerLoss.{LeftOpens, LeftRefused}
 use Rattle.promises.proofs.WholeRecords.{whole-part}
-use Rattle.promises.proofs.LossOfChain.{LossOfChain, no-longer}
+use Rattle.promises.proofs.LossOfChain.{no-longer}
 use Rattle.promises.proofs.Lasted.{Torn, Lasted, lasted, left}
 
 -- a place behind the prefix, counted from the journal's start

@@ -31,11 +31,12 @@ use Rattle.journal.specs.Walked.{refusedAt, stopAt}
 use Rattle.journal.specs.Permitted.{Reason, headTorn, complementZeros}
 use Rattle.journal.specs.Demand3.{behindPrefix, durableEnd}
 use Rattle.journal.proofs.Chains.{within, empty-under, chain-snoc}
+use Rattle.promises.specs.LossOfChain.{LossOfChain}
 use Rattle.promises.specs.Shortening.{wholeIn}
 use Rattle.promises.specs.Lost.{lostTo, lossCut, ChanceMatch}
 use Rattle.promises.specs.PowerLoss.{LeftOpens, LeftRefused}
 use Rattle.promises.proofs.WholeRecords.{whole-part, chain-split, whole-before, whole-through}
-use Rattle.promises.proofs.LossOfChain.{LossOfChain, no-longer}
+use Rattle.promises.proofs.LossOfChain.{no-longer}
 use Rattle.promises.proofs.TornRecord.{cut-none, cut-few, cut-head}
 use Rattle.promises.proofs.LeftBytes.{rest-drop, end-past, durable-is, chain-is, inside, rest-is, rest-length, first-lasted, StopsAt, whole-by, cut-by, refused-by}
 

@@ -1,5 +1,4 @@
--- A loss over a chain: what the laws of power loss ask of a journal, and no more. A written journal meets it at every place of a loss; and where it is
--- met at a place, it is met at the last place.
+-- A loss over a chain: a written journal meets it at every place of a loss; and where it is met at a place, it is met at the last place.
 -- Assumes nothing.
 use mathlib.Core.Path.{_≡_, ap, subst}
 use mathlib.Core.List.{List, _++_}
@@ -18,25 +17,11 @@ use Rattle.journal.specs.Counters.{highest}
 use Rattle.journal.specs.Demand3.{behindPrefix, durableEnd, SoundFront}
 use Rattle.journal.specs.Written.{Written}
 use Rattle.journal.proofs.Chains.{chain-end, chain-within}
+use Rattle.promises.specs.LossOfChain.{LossOfChain}
 use Rattle.promises.specs.Shortening.{wholeIn}
 use Rattle.promises.specs.Lost.{LossAt, lastPlace}
 use Rattle.promises.proofs.LastPlace.{not-before, not-past}
 use Rattle.promises.proofs.WholeRecords.{first-whole, whole-more, ends-later}
-
--- behind a sound front, sound records rs lead from 12,288 at least to the new length m; those that are whole at the place k end at B or past it. B may
--- stand inside a record, or below 12,288, and what stands behind the chain doesn't matter
-pub record LossOfChain (limit room : ℕ) (s : List ℕ) (rs : List Record) (k m : ℕ) : Type 0 where
-  pub front : SoundFront limit s
-  pub length64 : length s ≤ max64
-  pub slotGenerations : slotsGeneration (slotZero s) (slotOne s) < max64
-  pub recordGenerations : highest rs < max64
-  pub indexRoom : length (numbersOf rs) ≤ room
-  pub reach : ℕ
-  pub chain : Chain limit (behindPrefix s) prefixLength rs reach
-  pub notFront : prefixLength ≤ k
-  pub placeInside : k ≤ m
-  pub reached : m ≤ reach
-  pub pastDurable : durableEnd s ≤ endOf (wholeIn k rs)
 
 module _ (limit room : ℕ) (s : List ℕ) (rs : List Record) (k m : ℕ) where
   pub no-longer : LossOfChain limit room s rs k m → m ≤ length s

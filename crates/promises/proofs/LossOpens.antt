@@ -28,10 +28,11 @@ use Rattle.journal.specs.Walked.{refusedAt, stopAt}
 use Rattle.journal.specs.Demand3.{behindPrefix, durableEnd}
 use Rattle.journal.proofs.Chains.{empty-under}
 use Rattle.journal.proofs.Reasons.{zeros-told}
+use Rattle.promises.specs.LossOfChain.{LossOfChain}
 use Rattle.promises.specs.Shortening.{wholeIn}
 use Rattle.promises.specs.Lost.{lostTo, lossCut, HeadInPart, ChanceMatch}
 use Rattle.promises.specs.PowerLoss.{LeftOpens, LeftRefused}
-use Rattle.promises.proofs.LossOfChain.{LossOfChain, no-longer}
+use Rattle.promises.proofs.LossOfChain.{no-longer}
 use Rattle.promises.proofs.Lasted.{Torn}
 use Rattle.promises.proofs.TornRecord.{cut-none, head-row, cutting}
 use Rattle.promises.proofs.LeftBytes.{end-past, small, durable-is, chain-is, inside, then-is, stood-is, rest-is, rest-length, first-lasted, StopsAt, whole-by, cut-by, refused-by}

@@ -19,8 +19,8 @@ use Rattle.journal.specs.Scan.{refused, opened, scanOf}
 use Rattle.journal.specs.Demand3.{durableEnd}
 use Rattle.journal.proofs.OpenScans.{shut}
 use Rattle.promises.specs.Shortening.{wholeIn}
-use Rattle.promises.specs.Lost.{lostTo, lastPlace, lastingEnd, lossCut}
-use Rattle.promises.specs.PowerLoss.{LeftOpens, Enough, PowerLoss, UnsyncedLoss, LossBehindDurable, RefusedLoss, MatchedLoss, EveryLoss}
+use Rattle.promises.specs.Lost.{lostTo, lastPlace, lastingEnd}
+use Rattle.promises.specs.PowerLoss.{Enough, PowerLoss, UnsyncedLoss, WholeLast, LossBehindDurable, RefusedLoss, MatchedLoss, EveryLoss}
 use Rattle.promises.proofs.WholeRecords.{ends-later}
 use Rattle.promises.proofs.LastPlace.{not-before, was-zero}
 use Rattle.promises.proofs.OneMore.{one-more}
@@ -33,23 +33,19 @@ power-loss limit N lent s rs w k m x = chain-loss limit N lent s rs k m (of-writ
 pub unsynced-loss : UnsyncedLoss
 unsynced-loss limit N lent s rs w k m x = chain-unsynced limit N lent s rs k m (of-written limit (length lent) s rs k m w x)
 
--- B isn't past the end of the records that lasted
-pub loss-behind-durable : LossBehindDurable
-unfolding opened
-loss-behind-durable limit N lent s rs w k m x near chance =
-    let c = of-written limit (length lent) s rs k m w x in
+pub whole-last : WholeLast
+whole-last limit room s rs w k m x =
     let a = not-before k m s (x .placeInside) (x .noLonger) in
     let y = one-more limit k (lastPlace k m s) s a (was-zero k m s (x .placeInside) (x .noLonger)) (w .soundAlone) (le-refl prefixLength) in
-    let b : durableEnd s ≤ lastingEnd s rs k m = omega (arith, c .pastDurable, ends-later (wholeIn k rs) (y .0), ap endOf (y .1)) in
-    let o = chain-loss limit N lent s rs k m c (λ z. omega arith) chance in
-    let cut = lossCut s (lastPlace k m s) (lastingEnd s rs k m) m in
-    record {
-      isOpen = ap (λ (v : Scan). v .answer) (o .answer);
-      more = y .0;
-      oneMore = y .2;
-      cut = cut;
-      whole = subst (λ (v : List Record). LeftOpens limit N lent s (lostTo k m s) v cut) (y .1) o;
-    }
+    record { more = y .0; inFront = y .1; oneMore = y .2 }
+
+-- B isn't past the end of the records that lasted
+pub loss-behind-durable : LossBehindDurable
+loss-behind-durable limit N lent s rs w k m x near chance =
+    let c = of-written limit (length lent) s rs k m w x in
+    let y = whole-last limit (length lent) s rs w k m x in
+    let b : durableEnd s ≤ lastingEnd s rs k m = omega (arith, c .pastDurable, ends-later (wholeIn k rs) (y .more), ap endOf (y .inFront)) in
+    (chain-loss limit N lent s rs k m c (λ z. omega arith) chance, y)
 
 pub refused-loss : RefusedLoss
 unfolding opened refused

@@ -1,3 +1,4 @@
+pub mod LossOfChain
 pub mod Lost
 pub mod PowerLoss
 pub mod Shortening

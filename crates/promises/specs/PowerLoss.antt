@@ -69,19 +69,22 @@ UnsyncedLoss =
     (limit N : ℕ) (lent : List Entry) (s : List ℕ) (rs : List Record) → Written limit (length lent) s rs
     → (k m : ℕ) → LossAt s k m → lastStart N rs ≤ k → (Matched s rs k m → ⊥) → OpensLasting limit N lent s rs k m
 
--- by B alone: the bytes behind B are no more than N records can have. Tail opens, and keeps every record that ended at the place or before; one more
--- at most, whose lost bytes were 0 anyway
-pub record KeepsWhole (limit N : ℕ) (lent : List Entry) (s : List ℕ) (rs : List Record) (k m : ℕ) : Type 0 where
-  pub isOpen : scanOf limit (Tail N) (length lent) (lostTo k m s) .answer ≡ Open
+-- every record that ended at the place or before lasted; one more at most did, whose lost bytes were 0 anyway. N isn't asked
+pub record LastsWhole (s : List ℕ) (rs : List Record) (k m : ℕ) : Type 0 where
   pub more : List Record
+  pub inFront : lasting s rs k m ≡ wholeIn k rs ++ more
   pub oneMore : length more ≤ 1
-  pub cut : Cut
-  pub whole : LeftOpens limit N lent s (lostTo k m s) (wholeIn k rs ++ more) cut
 
+abbrev pub WholeLast : Type 0
+WholeLast =
+    (limit room : ℕ) (s : List ℕ) (rs : List Record) → Written limit room s rs → (k m : ℕ) → LossAt s k m → LastsWhole s rs k m
+
+-- by B alone: the bytes behind B are no more than N records can have. Then Tail opens, and keeps every record that ended at the place or before
 abbrev pub LossBehindDurable : Type 0
 LossBehindDurable =
     (limit N : ℕ) (lent : List Entry) (s : List ℕ) (rs : List Record) → Written limit (length lent) s rs
-    → (k m : ℕ) → LossAt s k m → m - durableEnd s ≤ N * (12 + limit) → (Matched s rs k m → ⊥) → KeepsWhole limit N lent s rs k m
+    → (k m : ℕ) → LossAt s k m → m - durableEnd s ≤ N * (12 + limit) → (Matched s rs k m → ⊥)
+    → OpensLasting limit N lent s rs k m × LastsWhole s rs k m
 
 -- ---- what else is answered
 
@@ -97,7 +100,7 @@ RefusedLoss =
     → (k m : ℕ) → LossAt s k m → (Matched s rs k m → ⊥) → OnlyEleven limit N lent s rs k m
 
 -- a chance match, for every N. Where the record's code lasted, it is kept, and only the end of its frame is wrong: the answer is that of a loss at
--- its end. Where the code didn't last, it is 14 at the record's place
+-- its end, behind which only zeros follow. Where the code didn't last, it is 14 at the record's place
 pub record AfterMatch (limit N : ℕ) (lent : List Entry) (s : List ℕ) (rs : List Record) (k m : ℕ) (torn : Record) : Type 0 where
   pub keeps : torn .place + headLength + torn .frame ≤ lastPlace k m s
       → LeftOpens limit N lent s (lostTo k m s) (wholeIn (torn .place + lengthOf torn) rs)
@@ -112,16 +115,12 @@ MatchedLoss =
 
 -- ---- every loss, and every N
 
--- what a unit finds: the records that lasted; 11, where N decides and is too small; or one of the two answers to a chance match
+-- what a unit finds: the records that lasted; 11, where N decides and is too small; or what a chance match does
 pub data AfterLoss (limit N : ℕ) (lent : List Entry) (s : List ℕ) (rs : List Record) (k m : ℕ) : Type 0 where
   opens : OpensLasting limit N lent s rs k m → AfterLoss limit N lent s rs k m
   eleven : Decides s rs k m → N * (12 + limit) < m - lastingEnd s rs k m
       → LeftRefused limit N lent (lostTo k m s) (lasting s rs k m) 11 (lastingEnd s rs k m) → AfterLoss limit N lent s rs k m
-  keeps : (x : Matched s rs k m)
-      → LeftOpens limit N lent s (lostTo k m s) (wholeIn (x .torn .place + lengthOf (x .torn)) rs)
-      (lossCut s (x .torn .place + lengthOf (x .torn)) (x .torn .place + lengthOf (x .torn)) m)
-      → AfterLoss limit N lent s rs k m
-  fourteen : (x : Matched s rs k m) → LeftRefused limit N lent (lostTo k m s) (lasting s rs k m) 14 (x .torn .place) → AfterLoss limit N lent s rs k m
+  matched : (x : Matched s rs k m) → AfterMatch limit N lent s rs k m (x .torn) → AfterLoss limit N lent s rs k m
 
 abbrev pub EveryLoss : Type 0
 EveryLoss =

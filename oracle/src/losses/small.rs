@@ -1,4 +1,5 @@
-//! Every loss of small journals: each place and each new length, with each durable end, and some N and limits.
+//! Every loss of small journals: each place and each new length, with each durable end, and some N and limits. And some in a head whose first
+//! byte is 0.
 
 use super::{Loss, Written};
 use crate::generate::ends;
@@ -35,17 +36,30 @@ fn places(written: &Written) -> impl Iterator<Item = (usize, usize)> {
     (START.max(written.durable_end as usize)..end + 1).flat_map(move |place| (place..end + 1).map(move |length| (place, length)))
 }
 
-/// Each loss of a journal.
-fn of(written: Written) -> impl Iterator<Item = Loss> {
-    let (places, longest, written) = (places(&written), written.longest_body(), Rc::new(written));
+/// A journal's losses at these places with these new lengths.
+fn of(written: Written, places: impl Iterator<Item = (usize, usize)>) -> impl Iterator<Item = Loss> {
+    let (longest, written) = (written.longest_body(), Rc::new(written));
     places.flat_map(move |(place, length)| {
         ASKED.map(|(excused, above)| Loss { written: written.clone(), place, length, excused, limit: longest + above, lent: LENT.to_vec() })
     })
 }
 
+/// The losses in the head of a record with a body of 256 bytes, whose first byte is 0, at new lengths about its edges.
+fn in_a_head() -> impl Iterator<Item = Loss> {
+    let written = Written::new(pieces::front(START as u64), START as u64, &[record(&body_1(7, b"D", &[b'8'; 245]))]);
+    let end = written.bytes.len();
+    let lengths = [START + 11, START + 12, START + 13, end - 1, end];
+    let from = move |place| lengths.into_iter().filter(move |length| place <= *length).map(move |length| (place, length));
+    of(written, (START..START + 13).flat_map(from))
+}
+
 /// Each loss of each journal.
 pub(super) fn losses() -> impl Iterator<Item = Loss> {
-    written().flat_map(of)
+    let all = |written: Written| {
+        let places = places(&written);
+        of(written, places)
+    };
+    written().flat_map(all).chain(in_a_head())
 }
 
 #[cfg(test)]
@@ -57,6 +71,7 @@ mod tests {
         // By how many bytes stand behind the durable end, in each journal.
         let behind = [65, 41, 0, 74, 49, 25, 0, 62, 23, 0];
         let places = behind.map(|bytes| (bytes + 1) * (bytes + 2) / 2);
-        assert_eq!(losses().count(), 6 * places.iter().sum::<usize>());
+        // In the head, five new lengths at twelve places, and four behind it.
+        assert_eq!(losses().count(), 6 * (places.iter().sum::<usize>() + 5 * 12 + 4));
     }
 }

@@ -20,9 +20,10 @@ const LENGTHS: usize = 8;
 pub enum Line {
     Whole,
     Under12,
-    HeadTornZeros,
-    HeadTornFew,
-    HeadTorn11,
+    HeadLost,
+    HeadInPartZeros,
+    HeadInPartFew,
+    HeadInPart11,
     RecordTorn,
     CrcWrong,
     Match14,
@@ -31,12 +32,13 @@ pub enum Line {
 
 impl Line {
     /// All lines, in the table's order.
-    pub const ALL: [Self; 9] = [
+    pub const ALL: [Self; 10] = [
         Self::Whole,
         Self::Under12,
-        Self::HeadTornZeros,
-        Self::HeadTornFew,
-        Self::HeadTorn11,
+        Self::HeadLost,
+        Self::HeadInPartZeros,
+        Self::HeadInPartFew,
+        Self::HeadInPart11,
         Self::RecordTorn,
         Self::CrcWrong,
         Self::Match14,
@@ -48,9 +50,10 @@ impl Line {
         match self {
             Self::Whole => "whole",
             Self::Under12 => "under 12",
-            Self::HeadTornZeros => "head torn, zeros",
-            Self::HeadTornFew => "head torn, few bytes",
-            Self::HeadTorn11 => "head torn: 11",
+            Self::HeadLost => "head lost",
+            Self::HeadInPartZeros => "head in part, zeros",
+            Self::HeadInPartFew => "head in part, few bytes",
+            Self::HeadInPart11 => "head in part: 11",
             Self::RecordTorn => "record torn",
             Self::CrcWrong => "crc wrong",
             Self::Match14 => "match: 14",
@@ -115,7 +118,7 @@ fn behind(end: usize, length: usize) -> Says {
 pub(super) fn line(loss: &Loss, last: usize) -> (Line, Says) {
     let (bytes, end) = (&loss.written.bytes, kept_end(loss, last));
     let (rest, lasted) = (loss.length - end, last - end);
-    let head_torn = lasted < LENGTHS;
+    let in_head = lasted < LENGTHS;
     let zeros = bytes[end..last].iter().all(|byte| *byte == 0);
     let torn = loss.written.records.iter().find(|record| record.place == end && last > end);
     let (torn_end, code_end) = torn.map_or((end, end), |torn| (torn.end, torn.code_end));
@@ -123,9 +126,10 @@ pub(super) fn line(loss: &Loss, last: usize) -> (Line, Says) {
     let lines = [
         (rest == 0, Line::Whole, opens(end, NONE, 0)),
         (rest < HEAD, Line::Under12, opens(end, INCOMPLETE, rest)),
-        (head_torn && zeros, Line::HeadTornZeros, opens(end, DAMAGED, rest)),
-        (head_torn && are_excused(loss, rest), Line::HeadTornFew, opens(end, DAMAGED, rest)),
-        (head_torn, Line::HeadTorn11, refused(end, 11)),
+        (lasted == 0, Line::HeadLost, opens(end, DAMAGED, rest)),
+        (in_head && zeros, Line::HeadInPartZeros, opens(end, DAMAGED, rest)),
+        (in_head && are_excused(loss, rest), Line::HeadInPartFew, opens(end, DAMAGED, rest)),
+        (in_head, Line::HeadInPart11, refused(end, 11)),
         (loss.length < torn_end, Line::RecordTorn, opens(end, INCOMPLETE, rest)),
         (!by_chance(), Line::CrcWrong, opens(end, DAMAGED, rest)),
         (last < code_end, Line::Match14, refused(end, 14)),
@@ -189,7 +193,7 @@ mod tests {
     #[test]
     fn a_wrong_match_differs() {
         let kept = |loss: &Loss| match right(loss) {
-            (Line::Match14, says) => behind(says.end, loss.length),
+            (Line::Match14, _) => behind(loss.written.records[1].end, loss.length),
             (_, says) => says,
         };
         let never_kept = |loss: &Loss| match right(loss) {

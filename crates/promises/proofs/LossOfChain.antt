@@ -2,19 +2,16 @@
 -- Assumes nothing.
 use mathlib.Core.Path.{_≡_, ap, subst}
 use mathlib.Core.List.{List, _++_}
-use Prim.Native.Nat.{ℕ, _+_, _-_, _≤_, _<_}
+use Prim.Native.Nat.{ℕ, _≤_}
 use native.Mathlib.Omega.{arith}
 use native.Mathlib.Nat.{le-refl}
 use lib.ListN.{length, length-drop}
-use Rattle.fields.specs.Fields.{max64}
-use Rattle.prefix.specs.Prefix.{prefixLength, slotZero, slotOne}
-use Rattle.prefix.specs.Slots.{slotsGeneration}
+use Rattle.prefix.specs.Prefix.{prefixLength}
 use Rattle.record.specs.declared.Record.{Record}
-use Rattle.index.specs.Entries.{bytesOf, numbersOf}
+use Rattle.index.specs.Entries.{bytesOf}
 use Rattle.index.proofs.Filing.{bytes-append}
 use Rattle.journal.specs.Walk.{Chain, endOf}
-use Rattle.journal.specs.Counters.{highest}
-use Rattle.journal.specs.Demand3.{behindPrefix, durableEnd, SoundFront}
+use Rattle.journal.specs.Demand3.{behindPrefix}
 use Rattle.journal.specs.Written.{Written}
 use Rattle.journal.proofs.Chains.{chain-end, chain-within}
 use Rattle.promises.specs.LossOfChain.{LossOfChain}

@@ -1,8 +1,7 @@
 -- Power loss, proved: a written journal is a chain, whose records that are whole at the place end at B or past it.
 -- Assumes nothing.
-use mathlib.Core.Path.{_≡_, refl, sym, ap, subst, _∙_}
+use mathlib.Core.Path.{_≡_, refl, sym, ap, _∙_}
 use mathlib.Core.Bool.{Bool, true, false}
-use mathlib.Core.List.{List}
 use Prim.Native.Nat.{_+_, _*_, _-_, _≤_}
 use native.Mathlib.Omega.{arith}
 use native.Mathlib.Nat.{le-refl}
@@ -10,7 +9,6 @@ use lib.ListN.{length}
 use lib.Dec.{leb}
 use borrow.Author.Tests.{leb-true, leb-false}
 use Rattle.prefix.specs.Prefix.{prefixLength}
-use Rattle.record.specs.declared.Record.{Record}
 use Rattle.journal.specs.declared.Rule.the-variants.{Tail}
 use Rattle.journal.specs.declared.Answer.the-variants.{Open}
 use Rattle.journal.specs.declared.answers.Scan.{Scan}

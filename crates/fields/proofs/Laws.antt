@@ -1,6 +1,7 @@
 -- The laws of fields at a cursor, at every width and for runs of bytes: nothing outside the field changes, an untouched place reads as before,
 -- and what was written is read back. A write that doesn't fit is among them: it changes nothing.
 -- Assumes nothing.
+use denote.Ref.{as_bor}
 use mathlib.Core.Path.{◌≡◌, refl, ap, ◌∙◌}
 use mathlib.Core.Bool.{true}
 use mathlib.Core.List.{List}
@@ -59,7 +60,7 @@ run_back v s c e =
 -- what a writer puts, a reader of the same bytes at the same place reads, and both stand behind it
 pub written_read : {A : Type 0} (n x : ℕ) (value : ℕ → Cursor → A) (nothing : A) (w : Writer) → x < 256 ^ n → fits n w.buffer.now w.at ≡ true
     → (taken n (value (le n (wrote (le_bytes n x) w).buffer.now w.at)) nothing (wrote (le_bytes n x) w).buffer.now (write_place w) ≡ value x (moved n (write_place w)))
-    × ((read_on n (record { bytes = (wrote (le_bytes n x) w).buffer; at = w.at })).at ≡ (wrote (le_bytes n x) w).at)
+    × ((read_on n (record { bytes = as_bor (wrote (le_bytes n x) w).buffer; at = w.at })).at ≡ (wrote (le_bytes n x) w).at)
 written_read n x value nothing w small e =
     let s = w.buffer.now in
     (number_back n x value nothing s (write_place w) small e, rw (same_length (le_bytes n x) s (write_place w), le_bytes-length n x))

@@ -2,14 +2,14 @@
 -- here is what each is to begin with, and afterwards.
 -- Assumes nothing.
 use Rattle.std.specs.Prelude.{ℕ, List, length}
-use denote.Ref.{MutBor, at_last}
+use denote.Ref.{Bor, MutBor, at_last}
 use Rattle.fields.specs.Cursors.{after, put_at}
 use Rattle.fields.specs.declared.Cursor.{Cursor}
 use Rattle.fields.specs.declared.reading.Reader.{Reader}
 use Rattle.fields.specs.declared.writing.Writer.{Writer}
 
 -- a reader at the front of the bytes
-abbrev pub reader_of : MutBor (List ℕ) → Reader
+abbrev pub reader_of : Bor (List ℕ) → Reader
 reader_of bytes = record { bytes = bytes; at = 0 }
 
 -- its place, as a cursor

@@ -11,6 +11,8 @@
 // The definitions are specs/Fields.antt, specs/Cursors.antt and specs/Holders.antt; proofs/Laws.antt has the laws: what was written is read
 // back, and nothing else changes. A function that has a `Reader` or a `Writer` in a local is proved by hand: proofs/ByReader.antt and
 // proofs/ByWriter.antt have the rules.
+#![tactic(auto)]
+
 ghost use Rattle.std.specs.Prelude.{◌≡◌, ◌-◌, length, drop};
 ghost use Rattle.fields.specs.Fields.{le, le_bytes};
 ghost use Rattle.fields.specs.Cursors.{at_front, taken, or_zero_u8, or_zero_u16, or_zero_u32, or_zero_u64, run_at, put_at, after};
@@ -23,38 +25,38 @@ pub use reading::Reader;
 pub use writing::Writer;
 
 // A place in a slice.
-#[derive(Drop)]
+#[derive(Clone, Copy)]
 pub struct Cursor {
     pub at: usize,
 }
 
 // A number that was read, with the cursor after it; or nothing, where its bytes are not all there.
-#[derive(Drop)]
+#[derive(Clone, Copy)]
 pub enum TakenU8 {
     Value(u8, Cursor),
     Nothing,
 }
 
-#[derive(Drop)]
+#[derive(Clone, Copy)]
 pub enum TakenU16 {
     Value(u16, Cursor),
     Nothing,
 }
 
-#[derive(Drop)]
+#[derive(Clone, Copy)]
 pub enum TakenU32 {
     Value(u32, Cursor),
     Nothing,
 }
 
-#[derive(Drop)]
+#[derive(Clone, Copy)]
 pub enum TakenU64 {
     Value(u64, Cursor),
     Nothing,
 }
 
 // The cursor after a run of bytes; or nothing, where they are not all there.
-#[derive(Drop)]
+#[derive(Clone, Copy)]
 pub enum TakenRun {
     Past(Cursor),
     Nothing,

@@ -67,6 +67,8 @@ impl<'a> Writer<'a> {
     pub fn written(self) -> &'a [u8]
         ensures { result.now ≡ run_at self.entry.at self.entry.buffer.now at_front }
     {
-        written(&*self.buffer, Cursor { at: self.at })
+        let at = self.at;
+        let buffer = self.buffer;
+        written(buffer, Cursor { at })
     }
 }

@@ -1,6 +1,7 @@
 // Fields at the edges of twelve bytes, 1 to 12. A line for each write: place, width, the cursor and the bytes after it. A line for each
 // read: place, width, and the cursor after it with what was read, or nothing. The file stdout was computed apart from this code, by
 // another language's little-endian conversions.
+#![tactic(auto)]
 use fields::{Cursor, TakenRun, TakenU8, TakenU16, TakenU32, TakenU64};
 use libc::STDOUT_FILENO;
 

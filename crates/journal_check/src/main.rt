@@ -1,5 +1,6 @@
 // The check program: reads a request from standard input, a rule and a journal, and writes what a scan of the journal comes to.
 // Crate `report` says what a request is, and makes the text. Where the input can't be read, nothing is written.
+#![tactic(auto)]
 ghost use Rattle.std.specs.Prelude.{◌≡◌, ◌≤◌, length};
 
 use libc::{STDIN_FILENO, STDOUT_FILENO};

@@ -2,6 +2,7 @@
 // answer with the output after it. A line for each seal: the bytes given, the answer and the bytes after it. A line for each look:
 // place, body limit, bytes, and the record or the test that fails. The file stdout was computed apart from this code, by another
 // language's CRC-32 and conversions.
+#![tactic(auto)]
 use fields::Cursor;
 use libc::STDOUT_FILENO;
 use record::{Kind, MsgType, Record, RecordSealed, RecordWritten, Row, Seen};

@@ -1,5 +1,6 @@
 // Answers the requests of the oracle's protocol (oracle/README.md) with the port: reads them from standard input until it ends, and writes
 // an answer to each. A request that isn't one ends the program.
+#![tactic(auto)]
 ghost use Rattle.std.specs.Prelude.{◌≡◌, length};
 
 mod operations;

@@ -10,6 +10,7 @@
 // `out[..n]` is then the whole text: no text is longer. In a shorter buffer stands as much of it as it holds.
 // 28, a request that is unknown or short, comes before 29, a journal above 65,536 bytes, and both before what the scan refuses.
 // The definitions are in specs/: Text, Request, Report, in this order.
+#![tactic(auto)]
 ghost use Rattle.std.specs.Prelude.{◌≡◌, min, length, replicate};
 ghost use Rattle.index.specs.Insert.{none};
 ghost use Rattle.journal.specs.Scan.{scan_of, index_after};

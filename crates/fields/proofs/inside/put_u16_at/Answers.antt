@@ -1,0 +1,11 @@
+-- `fields::inside::put_u16_at` meets its contract: two stores put the bytes.
+-- Assumes nothing.
+use native.Mathlib.Numerals.{towards_suc}
+use native.Mathlib.Omega.{arith}
+use Rattle.fields.specs.Fields.{le_bytes}
+use Rattle.fields.proofs.Put.{stores_put}
+use Rattle.fields.proofs.inside.put_u16_at.Goals as goal
+
+pub returns : goal.returns
+unfolding le_bytes
+returns c = stores_put _ (le_bytes 2 c.args.x) c.args.out.now c.args.at (omega arith) (simp towards_suc)

@@ -9,6 +9,7 @@
 // Eight bytes go through the table at once: the register is put into the first four, and each of the eight then has a row of its own. Every
 // private function here and in `table` has one caller, so that the compiler puts it in line: keep it so (docs/DECISIONS.md, CRC-32).
 #![tactic(auto)]
+
 ghost use Rattle.std.specs.Prelude.{◌≡◌, ◌++◌, ◌+◌, ◌-◌, ◌≤◌, ◌<◌, length, get_or, take, drop};
 ghost use Rattle.fields.specs.Fields.{le_bytes, part};
 ghost use Rattle.crc32.specs.Crc.{crc_from, crc_of, crc_on};

@@ -13,7 +13,7 @@ use native.Mathlib.Nat.{add-zero, zero-add, add-suc, suc-add}
 use native.Mathlib.Omega.{arith}
 use lib.Dec.{T, T¹, ltb, ltb→lt}
 use lib.ListN.{length, get_or}
-use mir.Syntax.{Width, w32, Ty, ty_int, Fn, Home, value_local, Opd, copy, int, int_neg, int_big, float, opd_true, opd_false, opd_unit, ptr_const, place, Rv, rv_opd, op2, op1, addr_of, aggregate, repeat, Body, skip, seq, assign, block, loop, cond, switch, exit, return, call, Arms, arm, default, no_default}
+use mir.Syntax.{Width, w32, Ty, ty_int, Fn, Home, value_local, Opd, copy, int, int_neg, int_big, float, opd_true, opd_false, opd_unit, ptr_const, size_of, align_of, num_of, fn_addr, vtable, place, Rv, rv_opd, op2, op1, addr_of, aggregate, repeat, repeat_p, select, Body, skip, seq, assign, block, loop, cond, switch, exit, return, call, unreachable, call_v, lend_static, Arms, arm, default, no_default}
 use mir.Facts.{and_yes}
 use prog.Wp.{Env, Tables, WpFn}
 use types.Run.{OneOf}
@@ -92,6 +92,11 @@ constant opd_true = 0
 constant opd_false = 0
 constant opd_unit = 0
 constant (ptr_const x) = 0
+constant (size_of τ) = 0
+constant (align_of τ) = 0
+constant (num_of w τ) = 0
+constant (fn_addr c g) = 0
+constant (vtable τ ss) = 0
 
 unfoldable pub assigned : Rv → ℕ
 assigned (rv_opd o) = constant o
@@ -100,6 +105,8 @@ assigned (op1 o a) = 0
 assigned (addr_of p) = 0
 assigned (aggregate os) = 0
 assigned (repeat o n) = 0
+assigned (repeat_p o n) = 0
+assigned (select a b c) = 0
 
 unfoldable pub stored : Body → ℕ
 stored (assign p v) = assigned v
@@ -112,6 +119,9 @@ stored (switch o zs) = 0
 stored (exit n) = 0
 stored return = 0
 stored (call f os p) = 0
+stored unreachable = 0
+stored (call_v o g os p) = 0
+stored (lend_static p τ c) = 0
 
 unfoldable pub stored_in : Arms → List ℕ
 stored_in (arm ks b zs) = stored b ∷ stored_in zs
@@ -129,6 +139,9 @@ stored_by (cond o a b) = []
 stored_by (exit n) = []
 stored_by return = []
 stored_by (call f os p) = []
+stored_by unreachable = []
+stored_by (call_v o g os p) = []
+stored_by (lend_static p τ c) = []
 
 module _ (w : Width) where
   abbrev pub ps : List (ParamKind 0)

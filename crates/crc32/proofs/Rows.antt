@@ -1,7 +1,7 @@
 -- Eight bytes at once: the register goes into the first four, and each of the eight then goes by a row of its own.
---     from_bytes, from-number     `row_byte`: where the byte of a row stands
---     no_row, one-row, all-rows   `eight`: before its loop, one turn, and after it
---     eight-on                    `update`: one turn
+--     from_bytes, from_number     `row_byte`: where the byte of a row stands
+--     no_row, one_row, all_rows   `eight`: before its loop, one turn, and after it
+--     eight_on                    `update`: one turn
 -- Assumes nothing.
 use mathlib.Core.Path.{◌≡◌, sym, ap, ap₂, ◌∙◌, subst}
 use mathlib.Core.List.{List, [], ◌∷◌, ◌++◌}

@@ -23,6 +23,7 @@ use fields::inside::u32_at;
 const ONES: u32 = 0xffff_ffff;
 
 // The byte that a row is for: row 0 has the last of the eight bytes at i, row 7 the first. The first four are taken from x.
+#[tactic(auto, using(crate::proofs::Rows::from_bytes, crate::proofs::Rows::from_number))]
 fn row_byte(x: u32, bytes: &[u8], i: usize, row: usize) -> u8
     requires { (i + 8 ≤ length bytes.now) × (row < 8) }
     ensures { result ≡ get_or (le_bytes 4 x ++ part 4 bytes.now (i + 4)) (7 - row) 0 }

@@ -9,8 +9,7 @@
 //     let all_else = input.rest();
 //
 // The definitions are specs/Fields.antt, specs/Cursors.antt and specs/Holders.antt; proofs/Laws.antt has the laws: what was written is read
-// back, and nothing else changes. A function that has a `Reader` or a `Writer` in a local is proved by hand: proofs/ByReader.antt and
-// proofs/ByWriter.antt have the rules.
+// back, and nothing else changes.
 #![tactic(auto)]
 
 ghost use Rattle.std.specs.Prelude.{◌≡◌, ◌-◌, length, drop};

@@ -1,8 +1,8 @@
 -- An array of n entries in a local, of which the first k are lent for a call as a slice. It says nothing of the crate's functions.
 --     FrontLent        what is kept while the first k are lent to be written: the lender's part, and the others in memory
---     lends-front      the local that holds the array: a `&κ mut [Entry]` of its first k, and what is kept
---     front-back       once κ is over, the local holds the array again: the last list, and the others behind it
---     FrontShown, shows-front, shown-back     the same of a `&κ [Entry]`: the local is room afterwards
+--     lends_front      the local that holds the array: a `&κ mut [Entry]` of its first k, and what is kept
+--     front_back       once κ is over, the local holds the array again: the last list, and the others behind it
+--     FrontShown, shows_front, shown_back     the same of a `&κ [Entry]`: the local is room afterwards
 -- Assumes `Logic`.
 use mathlib.Core.Path.{◌≡◌, refl, sym, ◌∙◌, subst}
 use Prim.Native.Nat.{ℕ, ◌≤◌}

@@ -2,131 +2,136 @@
 // read: place, width, and the cursor after it with what was read, or nothing. The file stdout was computed apart from this code, by
 // another language's little-endian conversions.
 #![tactic(auto)]
+
 use fields::{Cursor, TakenRun, TakenU8, TakenU16, TakenU32, TakenU64};
-use libc::STDOUT_FILENO;
+use std::io;
 
-fn text(s: &[u8]) {
-    io::write_all(STDOUT_FILENO, s);
+fn text(rt: &impl Print, s: &[u8]) -> io::Result<()> {
+    rt.write_all(s)
 }
 
-fn number(x: u64) {
-    text(b" ");
-    io::print_decimal(STDOUT_FILENO, x);
+fn number(rt: &impl Print, x: u64) -> io::Result<()> {
+    print!(rt; " {x}")
 }
 
-fn begin(name: &[u8], at: usize, width: u64) {
-    text(name);
-    number(at as u64);
-    number(width);
+fn begin(rt: &impl Print, name: &[u8], at: usize, width: u64) -> io::Result<()> {
+    text(rt, name)?;
+    number(rt, at as u64)?;
+    number(rt, width)
 }
 
-fn bytes(s: &[u8]) {
+fn bytes(rt: &impl Print, s: &[u8]) -> io::Result<()> {
     let mut i = 0;
-    text(b" ");
+    text(rt, b" ")?;
     while i < s.len() {
-        io::print_hex(STDOUT_FILENO, s[i] as u64, 2);
+        let b = s[i];
+        print!(rt; "{b:02x}")?;
         i += 1;
     }
-    text(b"\n");
+    text(rt, b"\n")
 }
 
-fn wrote(c: Cursor, s: &[u8; 12]) {
-    number(c.at as u64);
-    bytes(s);
+fn wrote(rt: &impl Print, c: Cursor, s: &[u8; 12]) -> io::Result<()> {
+    number(rt, c.at as u64)?;
+    bytes(rt, s)
 }
 
-fn got(c: Cursor, x: u64) {
-    number(c.at as u64);
-    text(b" ");
-    io::print_hex(STDOUT_FILENO, x, 2);
-    text(b"\n");
+fn got(rt: &impl Print, c: Cursor, x: u64) -> io::Result<()> {
+    number(rt, c.at as u64)?;
+    text(rt, b" ")?;
+    print!(rt; "{x:02x}")?;
+    text(rt, b"\n")
 }
 
 fn ascending() -> [u8; 12] {
     [1, 2, 3, 4, 5, 6, 7, 8, 9, 10, 11, 12]
 }
 
-fn put_numbers(at: usize) {
+fn put_numbers(rt: &impl Print, at: usize) -> io::Result<()> {
     let c = Cursor { at };
-    begin(b"put", at, 1);
+    begin(rt, b"put", at, 1)?;
     let mut s = ascending();
-    wrote(fields::put_u8(&mut s, c, 0xa1), &s);
-    begin(b"put", at, 2);
+    wrote(rt, fields::put_u8(&mut s, c, 0xa1), &s)?;
+    begin(rt, b"put", at, 2)?;
     let mut s = ascending();
-    wrote(fields::put_u16(&mut s, c, 0xb2b1), &s);
-    begin(b"put", at, 4);
+    wrote(rt, fields::put_u16(&mut s, c, 0xb2b1), &s)?;
+    begin(rt, b"put", at, 4)?;
     let mut s = ascending();
-    wrote(fields::put_u32(&mut s, c, 0xc4c3_c2c1), &s);
-    begin(b"put", at, 8);
+    wrote(rt, fields::put_u32(&mut s, c, 0xc4c3_c2c1), &s)?;
+    begin(rt, b"put", at, 8)?;
     let mut s = ascending();
-    wrote(fields::put_u64(&mut s, c, 0xd8d7_d6d5_d4d3_d2d1), &s);
+    wrote(rt, fields::put_u64(&mut s, c, 0xd8d7_d6d5_d4d3_d2d1), &s)
 }
 
-fn put_run(at: usize) {
-    begin(b"put", at, 3);
+fn put_run(rt: &impl Print, at: usize) -> io::Result<()> {
+    begin(rt, b"put", at, 3)?;
     let mut s = ascending();
-    wrote(fields::put_run(&mut s, Cursor { at }, b"\xe1\xe2\xe3"), &s);
+    wrote(
+        rt,
+        fields::put_run(&mut s, Cursor { at }, b"\xe1\xe2\xe3"),
+        &s,
+    )
 }
 
-fn take_small(s: &[u8], c: Cursor) {
-    begin(b"take", c.at, 1);
+fn take_small(rt: &impl Print, s: &[u8], c: Cursor) -> io::Result<()> {
+    begin(rt, b"take", c.at, 1)?;
     match fields::take_u8(s, c) {
-        TakenU8::Value(x, next) => got(next, x as u64),
-        TakenU8::Nothing => text(b" nothing\n"),
+        TakenU8::Value(x, next) => got(rt, next, x as u64)?,
+        TakenU8::Nothing => text(rt, b" nothing\n")?,
     }
-    begin(b"take", c.at, 2);
+    begin(rt, b"take", c.at, 2)?;
     match fields::take_u16(s, c) {
-        TakenU16::Value(x, next) => got(next, x as u64),
-        TakenU16::Nothing => text(b" nothing\n"),
+        TakenU16::Value(x, next) => got(rt, next, x as u64),
+        TakenU16::Nothing => text(rt, b" nothing\n"),
     }
 }
 
-fn take_large(s: &[u8], c: Cursor) {
-    begin(b"take", c.at, 4);
+fn take_large(rt: &impl Print, s: &[u8], c: Cursor) -> io::Result<()> {
+    begin(rt, b"take", c.at, 4)?;
     match fields::take_u32(s, c) {
-        TakenU32::Value(x, next) => got(next, x as u64),
-        TakenU32::Nothing => text(b" nothing\n"),
+        TakenU32::Value(x, next) => got(rt, next, x as u64)?,
+        TakenU32::Nothing => text(rt, b" nothing\n")?,
     }
-    begin(b"take", c.at, 8);
+    begin(rt, b"take", c.at, 8)?;
     match fields::take_u64(s, c) {
-        TakenU64::Value(x, next) => got(next, x),
-        TakenU64::Nothing => text(b" nothing\n"),
+        TakenU64::Value(x, next) => got(rt, next, x),
+        TakenU64::Nothing => text(rt, b" nothing\n"),
     }
 }
 
-fn take_run(s: &[u8], c: Cursor) {
-    begin(b"take", c.at, 3);
+fn take_run(rt: &impl Print, s: &[u8], c: Cursor) -> io::Result<()> {
+    begin(rt, b"take", c.at, 3)?;
     match fields::take_run(s, c, 3) {
-        TakenRun::Past(next) => number(next.at as u64),
-        TakenRun::Nothing => text(b" nothing"),
+        TakenRun::Past(next) => number(rt, next.at as u64)?,
+        TakenRun::Nothing => text(rt, b" nothing")?,
     }
-    bytes(fields::run(s, c, 3));
-    text(b"written");
-    number(c.at as u64);
-    bytes(fields::written(s, c));
-    text(b"rest");
-    number(c.at as u64);
-    bytes(fields::rest(s, c));
+    bytes(rt, fields::run(s, c, 3))?;
+    text(rt, b"written")?;
+    number(rt, c.at as u64)?;
+    bytes(rt, fields::written(s, c))?;
+    text(rt, b"rest")?;
+    number(rt, c.at as u64)?;
+    bytes(rt, fields::rest(s, c))
 }
 
-fn at(place: usize) {
+fn at(rt: &impl Print, place: usize) -> io::Result<()> {
     let s = b"\x01\x02\x03\x04\x05\x06\x07\x08\x09\x0a\x0b\x0c";
-    put_numbers(place);
-    put_run(place);
-    take_small(s, Cursor { at: place });
-    take_large(s, Cursor { at: place });
-    take_run(s, Cursor { at: place });
+    put_numbers(rt, place)?;
+    put_run(rt, place)?;
+    take_small(rt, s, Cursor { at: place })?;
+    take_large(rt, s, Cursor { at: place })?;
+    take_run(rt, s, Cursor { at: place })
 }
 
-fn main() {
-    at(0);
-    at(4);
-    at(5);
-    at(8);
-    at(9);
-    at(10);
-    at(11);
-    at(12);
-    at(13);
-    at(0xffff_ffff_ffff_ffff);
+fn main(rt: HostRuntime) -> io::Result<()> {
+    at(&rt, 0)?;
+    at(&rt, 4)?;
+    at(&rt, 5)?;
+    at(&rt, 8)?;
+    at(&rt, 9)?;
+    at(&rt, 10)?;
+    at(&rt, 11)?;
+    at(&rt, 12)?;
+    at(&rt, 13)?;
+    at(&rt, 0xffff_ffff_ffff_ffff)
 }

@@ -29,6 +29,21 @@ OWN = {
 }
 
 
+# The names of crate `outcomes`, of which some are names of lemmas elsewhere too: there they turn in its files alone.
+OUTCOMES = {
+    name: name.replace("-", "_")
+    for name in """
+    answers-and-leaves bulvreden-crc32 bulvreden-crc32-resume bulvreden-fresh-slots bulvreden-prefix bulvreden-reread bulvreden-scan bulvreden-seal
+    bulvreden-slot bulvreden-write decode-body decode-header decode-slot dropped-of encode-frame-record encode-header encode-prefix encode-slot
+    find-newest frame-of frame-of-elsewhere fresh-next fresh-slots insert-answer is-good newest-number newest-place newest-position newest-slot
+    newest-slot-elsewhere not-longer not-moved one-law or-zero-u16 or-zero-u32 or-zero-u64 or-zero-u8 put-at put-run put-u16 put-u32 put-u64 put-u8
+    reader-new reader-rest reader-take reader-u16 reader-u32 reader-u64 reader-u8 rest-elsewhere run-elsewhere scan-answer seal-frame-record seen-at
+    take-run take-u16 take-u32 take-u64 take-u8 writer-new writer-put writer-put-u16 writer-put-u32 writer-put-u64 writer-put-u8 writer-written
+    written-elsewhere
+    """.split()
+}
+
+
 def table():
     with open(os.path.join(HERE, "respell.tsv"), encoding="utf-8") as f:
         return dict(line.rstrip("\n").split("\t") for line in f)
@@ -46,6 +61,8 @@ def turned(path, text, rows, plain):
     """Plain: the rows with no dash."""
     if path.endswith(".md"):
         return spans(text, rows)
+    if path.startswith("crates/outcomes/"):
+        rows = {**rows, **OUTCOMES}
     if path.endswith(".antt"):
         lines = []
         for line in words(text, OWN.get(path, {})).split("\n"):

@@ -1,9 +1,9 @@
--- One law gives every function its one outcome (`one-law`): an outcome that fits is the only one, if whatever fits is equal to it.
--- Contracts here are equations, of the result, of what is lent, or of both: `answers`, `leaves`, `answers-and-leaves`.
+-- One law gives every function its one outcome (`one_law`): an outcome that fits is the only one, if whatever fits is equal to it.
+-- Contracts here are equations, of the result, of what is lent, or of both: `answers`, `leaves`, `answers_and_leaves`.
 -- A function's theorem is one of the three. What the equations say is not written again: `_` is read off the contract.
 --     by value, nothing lent           answers value _ (λ κs a. (tt, tt)) (λ κs a ws. refl): a `tt` for each parameter, and one more
 --     a part handed back               answers (part (λ κs r. r) (λ κs x. x) (λ κs x. refl)) _ and the rest as above
---     by value, a `&mut` parameter     answers-and-leaves value (lends (λ κs e. now e.0) (λ κs a x. (x, tt)) (λ κs a x. refl) (λ κs a ws. refl)) _ _
+--     by value, a `&mut` parameter     answers_and_leaves value (lends (λ κs e. now e.0) (λ κs a x. (x, tt)) (λ κs a x. refl) (λ κs a ws. refl)) _ _
 --                                      with `e.0`, `e.1.0`, .. by the parameter's place, and x at that place among the `tt`
 --     no result, a `&mut` parameter    leaves (lends and so on) _ (λ κs. tt) (λ κs r. refl)
 -- Assumes nothing.
@@ -25,11 +25,11 @@ module _ {M : Type 1} (𝓤 : Ura M) (T : Ended) (κs : Lives T) (a : Args T.sig
   abbrev Same : Res T.signature κs → Lasts T κs a → Type 0
   Same r ws = (v.see κs r ≡ v.see κs r₀) × (ws ≡ ws₀)
 
-  pub one-law : (g : c.ghost) × ent 𝓤 (emp 𝓤) (c.requires g)
+  pub one_law : (g : c.ghost) × ent 𝓤 (emp 𝓤) (c.requires g)
       → ((g : c.ghost) → Fits 𝓤 T κs a c g (emp 𝓤) r₀ ws₀)
       → ((g : c.ghost) (r : Res T.signature κs) (ws : Lasts T κs a) → ent 𝓤 (c.ensures g r (at_exit T κs a ws)) (fact 𝓤 (Same r ws)))
       → OneAt 𝓤 T κs a c v
-  one-law free fits says = record {
+  one_law free fits says = record {
     free = free;
     some = λ g. (r₀, ws₀, fits g);
     no_second = λ g g' P r r' ws ws' fit fit'.
@@ -87,7 +87,7 @@ module _ {M : Type 1} {T : Ended} (R : Result T) (f : (κs : Lives T) → Args T
   answers last all = record {
     proved = λ 𝓤 𝓛 mem run. refl;
     one = λ 𝓤 𝓛 mem run κs a.
-        one-law 𝓤 T κs a (answering 𝓤 𝓛 mem run κs a) R.view (R.made κs (f κs a)) (last κs a) (tt, id⊢ 𝓤 (emp 𝓤))
+        one_law 𝓤 T κs a (answering 𝓤 𝓛 mem run κs a) R.view (R.made κs (f κs a)) (last κs a) (tt, id⊢ 𝓤 (emp 𝓤))
         (λ g. fact_i 𝓤 _ (emp 𝓤) (R.seen κs (f κs a)))
         (λ g r ws. fact_mono 𝓤 (R.view.see κs r ≡ f κs a) _ (λ e. (e ∙ sym (R.seen κs (f κs a)), all κs a ws)));
   }
@@ -103,7 +103,7 @@ module _ {M : Type 1} {T : Ended} (L : Lent T) (l : (κs : Lives T) → Args T.s
   leaves result all = record {
     proved = λ 𝓤 𝓛 mem run. refl;
     one = λ 𝓤 𝓛 mem run κs a.
-        one-law 𝓤 T κs a (leaving 𝓤 𝓛 mem run κs a) whole (result κs) (L.last κs a (l κs a)) (tt, id⊢ 𝓤 (emp 𝓤))
+        one_law 𝓤 T κs a (leaving 𝓤 𝓛 mem run κs a) whole (result κs) (L.last κs a (l κs a)) (tt, id⊢ 𝓤 (emp 𝓤))
         (λ g. fact_i 𝓤 _ (emp 𝓤) (L.held κs a (l κs a)))
         (λ g r ws. fact_mono 𝓤 (L.read κs (at_exit T κs a ws) ≡ l κs a) _ (λ e. (all κs r, L.all κs a ws ∙ ap (L.last κs a) e)));
   }
@@ -118,11 +118,11 @@ module _ {M : Type 1} {T : Ended} (R : Result T) (L : Lent T) (f : (κs : Lives 
     ensures = λ g r e. sep 𝓤 (fact 𝓤 (R.view.see κs r ≡ f κs a)) (fact 𝓤 (L.read κs e ≡ l κs a));
   }
 
-  pub answers-and-leaves : OneOutcome M T both (closed T both) R.view
-  answers-and-leaves = record {
+  pub answers_and_leaves : OneOutcome M T both (closed T both) R.view
+  answers_and_leaves = record {
     proved = λ 𝓤 𝓛 mem run. refl;
     one = λ 𝓤 𝓛 mem run κs a.
-        one-law 𝓤 T κs a (both 𝓤 𝓛 mem run κs a) R.view (R.made κs (f κs a)) (L.last κs a (l κs a)) (tt, id⊢ 𝓤 (emp 𝓤))
+        one_law 𝓤 T κs a (both 𝓤 𝓛 mem run κs a) R.view (R.made κs (f κs a)) (L.last κs a (l κs a)) (tt, id⊢ 𝓤 (emp 𝓤))
         (λ g. via 𝓤 (sep 𝓤 (emp 𝓤) (emp 𝓤)) (emp∗ 𝓤 (emp 𝓤))
         (mono∗ 𝓤 (fact_i 𝓤 _ (emp 𝓤) (R.seen κs (f κs a))) (fact_i 𝓤 _ (emp 𝓤) (L.held κs a (l κs a)))))
         (λ g r ws. via 𝓤 _ (pairs 𝓤 (R.view.see κs r ≡ f κs a) (L.read κs (at_exit T κs a ws) ≡ l κs a))

@@ -4,33 +4,33 @@
 use mathlib.Core.Path.{refl}
 use Rattle.host.proofs as host
 use Rattle.outcomes.specs.OneOutcome.{OneOutcome, whole}
-use Rattle.outcomes.proofs.Equations.{answers, answers-and-leaves, value, lends}
+use Rattle.outcomes.proofs.Equations.{answers, answers_and_leaves, value, lends}
 
-pub bulvreden-scan : {M : Type 1} → OneOutcome M host.bulvreden_scan.ended host.bulvreden_scan.clauses host.bulvreden_scan.spec whole
-bulvreden-scan =
-    answers-and-leaves value
+pub bulvreden_scan : {M : Type 1} → OneOutcome M host.bulvreden_scan.ended host.bulvreden_scan.clauses host.bulvreden_scan.spec whole
+bulvreden_scan =
+    answers_and_leaves value
     (lends (λ κs e. e.1.1.1.1.0.now) (λ κs a x. (tt, (tt, (tt, (tt, (x, tt)))))) (λ κs a x. refl) (λ κs a ws. refl)) _ _
 
-pub bulvreden-reread : {M : Type 1} → OneOutcome M host.bulvreden_reread.ended host.bulvreden_reread.clauses host.bulvreden_reread.spec whole
-bulvreden-reread = answers value _ (λ κs a. (tt, (tt, (tt, tt)))) (λ κs a ws. refl)
+pub bulvreden_reread : {M : Type 1} → OneOutcome M host.bulvreden_reread.ended host.bulvreden_reread.clauses host.bulvreden_reread.spec whole
+bulvreden_reread = answers value _ (λ κs a. (tt, (tt, (tt, tt)))) (λ κs a ws. refl)
 
-pub bulvreden-write : {M : Type 1} → OneOutcome M host.bulvreden_write.ended host.bulvreden_write.clauses host.bulvreden_write.spec whole
-bulvreden-write = answers-and-leaves value (lends (λ κs e. e.0.now) (λ κs a x. (x, (tt, (tt, (tt, (tt, (tt, (tt, tt)))))))) (λ κs a x. refl) (λ κs a ws. refl)) _ _
+pub bulvreden_write : {M : Type 1} → OneOutcome M host.bulvreden_write.ended host.bulvreden_write.clauses host.bulvreden_write.spec whole
+bulvreden_write = answers_and_leaves value (lends (λ κs e. e.0.now) (λ κs a x. (x, (tt, (tt, (tt, (tt, (tt, (tt, tt)))))))) (λ κs a x. refl) (λ κs a ws. refl)) _ _
 
-pub bulvreden-seal : {M : Type 1} → OneOutcome M host.bulvreden_seal.ended host.bulvreden_seal.clauses host.bulvreden_seal.spec whole
-bulvreden-seal = answers-and-leaves value (lends (λ κs e. e.0.now) (λ κs a x. (x, (tt, tt))) (λ κs a x. refl) (λ κs a ws. refl)) _ _
+pub bulvreden_seal : {M : Type 1} → OneOutcome M host.bulvreden_seal.ended host.bulvreden_seal.clauses host.bulvreden_seal.spec whole
+bulvreden_seal = answers_and_leaves value (lends (λ κs e. e.0.now) (λ κs a x. (x, (tt, tt))) (λ κs a x. refl) (λ κs a ws. refl)) _ _
 
-pub bulvreden-fresh-slots : {M : Type 1} → OneOutcome M host.bulvreden_fresh_slots.ended host.bulvreden_fresh_slots.clauses host.bulvreden_fresh_slots.spec whole
-bulvreden-fresh-slots = answers value _ (λ κs a. (tt, tt)) (λ κs a ws. refl)
+pub bulvreden_fresh_slots : {M : Type 1} → OneOutcome M host.bulvreden_fresh_slots.ended host.bulvreden_fresh_slots.clauses host.bulvreden_fresh_slots.spec whole
+bulvreden_fresh_slots = answers value _ (λ κs a. (tt, tt)) (λ κs a ws. refl)
 
-pub bulvreden-slot : {M : Type 1} → OneOutcome M host.bulvreden_slot.ended host.bulvreden_slot.clauses host.bulvreden_slot.spec whole
-bulvreden-slot = answers value _ (λ κs a. (tt, tt)) (λ κs a ws. refl)
+pub bulvreden_slot : {M : Type 1} → OneOutcome M host.bulvreden_slot.ended host.bulvreden_slot.clauses host.bulvreden_slot.spec whole
+bulvreden_slot = answers value _ (λ κs a. (tt, tt)) (λ κs a ws. refl)
 
-pub bulvreden-prefix : {M : Type 1} → OneOutcome M host.bulvreden_prefix.ended host.bulvreden_prefix.clauses host.bulvreden_prefix.spec whole
-bulvreden-prefix = answers-and-leaves value (lends (λ κs e. e.0.now) (λ κs a x. (x, (tt, (tt, tt)))) (λ κs a x. refl) (λ κs a ws. refl)) _ _
+pub bulvreden_prefix : {M : Type 1} → OneOutcome M host.bulvreden_prefix.ended host.bulvreden_prefix.clauses host.bulvreden_prefix.spec whole
+bulvreden_prefix = answers_and_leaves value (lends (λ κs e. e.0.now) (λ κs a x. (x, (tt, (tt, tt)))) (λ κs a x. refl) (λ κs a ws. refl)) _ _
 
-pub bulvreden-crc32 : {M : Type 1} → OneOutcome M host.bulvreden_crc32.ended host.bulvreden_crc32.clauses host.bulvreden_crc32.spec whole
-bulvreden-crc32 = answers value _ (λ κs a. (tt, tt)) (λ κs a ws. refl)
+pub bulvreden_crc32 : {M : Type 1} → OneOutcome M host.bulvreden_crc32.ended host.bulvreden_crc32.clauses host.bulvreden_crc32.spec whole
+bulvreden_crc32 = answers value _ (λ κs a. (tt, tt)) (λ κs a ws. refl)
 
-pub bulvreden-crc32-resume : {M : Type 1} → OneOutcome M host.bulvreden_crc32_resume.ended host.bulvreden_crc32_resume.clauses host.bulvreden_crc32_resume.spec whole
-bulvreden-crc32-resume = answers value _ (λ κs a. (tt, (tt, tt))) (λ κs a ws. refl)
+pub bulvreden_crc32_resume : {M : Type 1} → OneOutcome M host.bulvreden_crc32_resume.ended host.bulvreden_crc32_resume.clauses host.bulvreden_crc32_resume.spec whole
+bulvreden_crc32_resume = answers value _ (λ κs a. (tt, (tt, tt))) (λ κs a ws. refl)

@@ -4,16 +4,16 @@
 use mathlib.Core.Path.{refl}
 use Rattle.index.proofs as index
 use Rattle.outcomes.specs.OneOutcome.{OneOutcome, whole}
-use Rattle.outcomes.proofs.Equations.{answers, leaves, answers-and-leaves, value, lends}
+use Rattle.outcomes.proofs.Equations.{answers, leaves, answers_and_leaves, value, lends}
 
 pub entry_at : {M : Type 1} → OneOutcome M index.entry_at.ended index.entry_at.clauses index.entry_at.spec whole
 entry_at = answers value _ (λ κs a. (tt, (tt, tt))) (λ κs a ws. refl)
 
-pub put-at : {M : Type 1} → OneOutcome M index.put_at.ended index.put_at.clauses index.put_at.spec whole
-put-at = leaves (lends (λ κs e. e.0.now) (λ κs a x. (x, (tt, (tt, tt)))) (λ κs a x. refl) (λ κs a ws. refl)) _ (λ κs. tt) (λ κs r. refl)
+pub put_at : {M : Type 1} → OneOutcome M index.put_at.ended index.put_at.clauses index.put_at.spec whole
+put_at = leaves (lends (λ κs e. e.0.now) (λ κs a x. (x, (tt, (tt, tt)))) (λ κs a x. refl) (λ κs a ws. refl)) _ (λ κs. tt) (λ κs r. refl)
 
 pub lookup : {M : Type 1} → OneOutcome M index.lookup.ended index.lookup.clauses index.lookup.spec whole
 lookup = answers value _ (λ κs a. (tt, (tt, (tt, tt)))) (λ κs a ws. refl)
 
 pub insert : {M : Type 1} → OneOutcome M index.insert.ended index.insert.clauses index.insert.spec whole
-insert = answers-and-leaves value (lends (λ κs e. e.0.now) (λ κs a x. (x, (tt, (tt, (tt, tt))))) (λ κs a x. refl) (λ κs a ws. refl)) _ _
+insert = answers_and_leaves value (lends (λ κs e. e.0.now) (λ κs a x. (x, (tt, (tt, (tt, tt))))) (λ κs a x. refl) (λ κs a ws. refl)) _ _

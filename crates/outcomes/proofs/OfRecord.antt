@@ -3,26 +3,26 @@
 use mathlib.Core.Path.{refl}
 use Rattle.record.proofs as records
 use Rattle.outcomes.specs.OneOutcome.{OneOutcome, whole}
-use Rattle.outcomes.proofs.Equations.{answers, answers-and-leaves, value, lends}
+use Rattle.outcomes.proofs.Equations.{answers, answers_and_leaves, value, lends}
 
-pub is-good : {M : Type 1} → OneOutcome M records.is_good.ended records.is_good.clauses records.is_good.spec whole
-is-good = answers value _ (λ κs a. (tt, tt)) (λ κs a ws. refl)
+pub is_good : {M : Type 1} → OneOutcome M records.is_good.ended records.is_good.clauses records.is_good.spec whole
+is_good = answers value _ (λ κs a. (tt, tt)) (λ κs a ws. refl)
 
-pub encode-frame-record : {M : Type 1}
+pub encode_frame_record : {M : Type 1}
     → OneOutcome M records.encode_frame_record.ended records.encode_frame_record.clauses records.encode_frame_record.spec whole
-encode-frame-record =
-    answers-and-leaves value
+encode_frame_record =
+    answers_and_leaves value
     (lends (λ κs e. e.0.now) (λ κs a x. (x, (tt, (tt, (tt, (tt, (tt, tt))))))) (λ κs a x. refl) (λ κs a ws. refl)) _ _
 
-pub seal-frame-record : {M : Type 1}
+pub seal_frame_record : {M : Type 1}
     → OneOutcome M records.seal_frame_record.ended records.seal_frame_record.clauses records.seal_frame_record.spec whole
-seal-frame-record = answers-and-leaves value (lends (λ κs e. e.0.now) (λ κs a x. (x, (tt, tt))) (λ κs a x. refl) (λ κs a ws. refl)) _ _
+seal_frame_record = answers_and_leaves value (lends (λ κs e. e.0.now) (λ κs a x. (x, (tt, tt))) (λ κs a x. refl) (λ κs a ws. refl)) _ _
 
-pub decode-body : {M : Type 1} → OneOutcome M records.decode_body.ended records.decode_body.clauses records.decode_body.spec whole
-decode-body = answers value _ (λ κs a. (tt, tt)) (λ κs a ws. refl)
+pub decode_body : {M : Type 1} → OneOutcome M records.decode_body.ended records.decode_body.clauses records.decode_body.spec whole
+decode_body = answers value _ (λ κs a. (tt, tt)) (λ κs a ws. refl)
 
-pub seen-at : {M : Type 1} → OneOutcome M records.seen_at.ended records.seen_at.clauses records.seen_at.spec whole
-seen-at = answers value _ (λ κs a. (tt, (tt, (tt, tt)))) (λ κs a ws. refl)
+pub seen_at : {M : Type 1} → OneOutcome M records.seen_at.ended records.seen_at.clauses records.seen_at.spec whole
+seen_at = answers value _ (λ κs a. (tt, (tt, (tt, tt)))) (λ κs a ws. refl)
 
 pub code_of : {M : Type 1} → OneOutcome M records.code_of.ended records.code_of.clauses records.code_of.spec whole
 code_of = answers value _ (λ κs a. (tt, tt)) (λ κs a ws. refl)

@@ -1,7 +1,7 @@
 -- Where a contract is silent there is no one outcome: so `OneOutcome` says something, and its exceptions are real.
---     run-elsewhere, ..               compared whole, with its address, what `run`, `rest`, `written`, `newest_slot` and `frame_of` hand back is not fixed:
+--     run_elsewhere, ..               compared whole, with its address, what `run`, `rest`, `written`, `newest_slot` and `frame_of` hand back is not fixed:
 --                                     a part with the same bytes elsewhere fits as well
---     insert-answer, scan-answer      without their clause on the entries that are lent, `insert` and `scan` would have many outcomes
+--     insert_answer, scan_answer      without their clause on the entries that are lent, `insert` and `scan` would have many outcomes
 -- Assumes nothing.
 use mathlib.Core.Path.{◌≡◌, ap}
 use mathlib.Core.HLevel.{⊥_prop}
@@ -48,43 +48,43 @@ module _ {M : Type 1} (𝓤 : Ura M) (T : Ended) (κs : Lives T) (a : Args T.sig
 abbrev moved : {X : Type 0} → Bor X → Bor X
 moved x = record { ref_ptr = (x.ref_ptr.0 + 1, x.ref_ptr.1); ghost_name = x.ghost_name; now = x.now }
 
-not-moved : {X : Type 0} (x : Bor X) → x ≡ moved x → ⊥
-not-moved x p = let h : x.ref_ptr.0 ≡ x.ref_ptr.0 + 1 = ap (λ y. y.ptr.0) p in omega (arith, h)
+not_moved : {X : Type 0} (x : Bor X) → x ≡ moved x → ⊥
+not_moved x p = let h : x.ref_ptr.0 ≡ x.ref_ptr.0 + 1 = ap (λ y. y.ptr.0) p in omega (arith, h)
 
 -- ---- one more entry
-not-longer : (es : List Entry) → es ≡ none ∷ es → ⊥
-not-longer es p = let h : length es ≡ suc (length es) = ap length p in omega (arith, h)
+not_longer : (es : List Entry) → es ≡ none ∷ es → ⊥
+not_longer es p = let h : length es ≡ suc (length es) = ap length p in omega (arith, h)
 
 module _ {M : Type 1} {𝓤 : Ura M} (𝓛 : Logic 𝓤) (mem : Memory → SProp 𝓤) (run : Routine → Fun 𝓤) where
-  pub run-elsewhere : (κs : Lives fields.run.ended) (a : Args fields.run.signature κs)
+  pub run_elsewhere : (κs : Lives fields.run.ended) (a : Args fields.run.signature κs)
       → OneAt 𝓤 fields.run.ended κs a (fields.run.clauses 𝓛 mem run κs a) whole → ⊥
-  run-elsewhere κs a =
+  run_elsewhere κs a =
       many 𝓤 fields.run.ended κs a (fields.run.clauses 𝓛 mem run κs a) whole moved (λ ws. ws)
-      (λ g r ws. id⊢ 𝓤 _) (λ r ws e. not-moved r e.0)
+      (λ g r ws. id⊢ 𝓤 _) (λ r ws e. not_moved r e.0)
 
-  pub rest-elsewhere : (κs : Lives fields.rest.ended) (a : Args fields.rest.signature κs)
+  pub rest_elsewhere : (κs : Lives fields.rest.ended) (a : Args fields.rest.signature κs)
       → OneAt 𝓤 fields.rest.ended κs a (fields.rest.clauses 𝓛 mem run κs a) whole → ⊥
-  rest-elsewhere κs a =
+  rest_elsewhere κs a =
       many 𝓤 fields.rest.ended κs a (fields.rest.clauses 𝓛 mem run κs a) whole moved (λ ws. ws)
-      (λ g r ws. id⊢ 𝓤 _) (λ r ws e. not-moved r e.0)
+      (λ g r ws. id⊢ 𝓤 _) (λ r ws e. not_moved r e.0)
 
-  pub written-elsewhere : (κs : Lives fields.written.ended) (a : Args fields.written.signature κs)
+  pub written_elsewhere : (κs : Lives fields.written.ended) (a : Args fields.written.signature κs)
       → OneAt 𝓤 fields.written.ended κs a (fields.written.clauses 𝓛 mem run κs a) whole → ⊥
-  written-elsewhere κs a =
+  written_elsewhere κs a =
       many 𝓤 fields.written.ended κs a (fields.written.clauses 𝓛 mem run κs a) whole moved (λ ws. ws)
-      (λ g r ws. id⊢ 𝓤 _) (λ r ws e. not-moved r e.0)
+      (λ g r ws. id⊢ 𝓤 _) (λ r ws e. not_moved r e.0)
 
-  pub newest-slot-elsewhere : (κs : Lives prefix.newest_slot.ended) (a : Args prefix.newest_slot.signature κs)
+  pub newest_slot_elsewhere : (κs : Lives prefix.newest_slot.ended) (a : Args prefix.newest_slot.signature κs)
       → OneAt 𝓤 prefix.newest_slot.ended κs a (prefix.newest_slot.clauses 𝓛 mem run κs a) whole → ⊥
-  newest-slot-elsewhere κs a =
+  newest_slot_elsewhere κs a =
       many 𝓤 prefix.newest_slot.ended κs a (prefix.newest_slot.clauses 𝓛 mem run κs a) whole moved (λ ws. ws)
-      (λ g r ws. id⊢ 𝓤 _) (λ r ws e. not-moved r e.0)
+      (λ g r ws. id⊢ 𝓤 _) (λ r ws e. not_moved r e.0)
 
-  pub frame-of-elsewhere : (κs : Lives journal.frame_of.ended) (a : Args journal.frame_of.signature κs)
+  pub frame_of_elsewhere : (κs : Lives journal.frame_of.ended) (a : Args journal.frame_of.signature κs)
       → OneAt 𝓤 journal.frame_of.ended κs a (journal.frame_of.clauses 𝓛 mem run κs a) whole → ⊥
-  frame-of-elsewhere κs a =
+  frame_of_elsewhere κs a =
       many 𝓤 journal.frame_of.ended κs a (journal.frame_of.clauses 𝓛 mem run κs a) whole moved (λ ws. ws)
-      (λ g r ws. id⊢ 𝓤 _) (λ r ws e. not-moved r e.0)
+      (λ g r ws. id⊢ 𝓤 _) (λ r ws e. not_moved r e.0)
 
   -- `insert` with its first clause alone
   abbrev inserting : Clauses 𝓤 index.insert.ended
@@ -97,11 +97,11 @@ module _ {M : Type 1} {𝓤 : Ura M} (𝓛 : Logic 𝓤) (mem : Memory → SProp
         (record { entry = a.1.1.0; exit = e.1.1.0 }) (record { entry = a.1.1.1.0; exit = e.1.1.1.0 }) r;
   }
 
-  pub insert-answer : (κs : Lives index.insert.ended) (a : Args index.insert.signature κs)
+  pub insert_answer : (κs : Lives index.insert.ended) (a : Args index.insert.signature κs)
       → OneAt 𝓤 index.insert.ended κs a (inserting κs a) whole → ⊥
-  insert-answer κs a =
+  insert_answer κs a =
       many 𝓤 index.insert.ended κs a (inserting κs a) whole (λ r. r) (λ ws. (none ∷ ws.0, ws.1)) (λ g r ws. id⊢ 𝓤 _)
-      (λ r ws e. not-longer ws.0 (ap (λ us. us.0) e.1))
+      (λ r ws e. not_longer ws.0 (ap (λ us. us.0) e.1))
 
   -- `scan` with its first clause alone
   abbrev scanning : Clauses 𝓤 journal.scan.ended
@@ -114,8 +114,8 @@ module _ {M : Type 1} {𝓤 : Ura M} (𝓛 : Logic 𝓤) (mem : Memory → SProp
         (record { entry = a.1.1.0; exit = e.1.1.0 }) (record { entry = a.1.1.1.0; exit = e.1.1.1.0 }) r;
   }
 
-  pub scan-answer : (κs : Lives journal.scan.ended) (a : Args journal.scan.signature κs)
+  pub scan_answer : (κs : Lives journal.scan.ended) (a : Args journal.scan.signature κs)
       → OneAt 𝓤 journal.scan.ended κs a (scanning κs a) whole → ⊥
-  scan-answer κs a =
+  scan_answer κs a =
       many 𝓤 journal.scan.ended κs a (scanning κs a) whole (λ r. r) (λ ws. (tt, (tt, (tt, (none ∷ ws.1.1.1.0, tt))))) (λ g r ws. id⊢ 𝓤 _)
-      (λ r ws e. not-longer ws.1.1.1.0 (ap (λ us. us.1.1.1.0) e.1))
+      (λ r ws e. not_longer ws.1.1.1.0 (ap (λ us. us.1.1.1.0) e.1))

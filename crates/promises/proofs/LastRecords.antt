@@ -9,7 +9,7 @@ use lib.ListN.{length, take, drop, length-drop, take-append-drop}
 use Rattle.prefix.specs.Prefix.{prefix_length}
 use Rattle.record.specs.declared.Record.{Record}
 use Rattle.record.proofs.SoundBoth.{sound_is, record-body}
-use Rattle.index.specs.Entries.{bytes_of}
+use Rattle.index.specs.Entries.{length_of, bytes_of}
 use Rattle.index.proofs.Filing.{bytes-append}
 use Rattle.journal.specs.Walk.{rest, stands_at, Chain, nothing, next, end_of}
 use Rattle.journal.proofs.Chains.{chain_end}
@@ -30,7 +30,7 @@ bytes_most limit t {p} (next {r} {rs} s c) =
 -- the second part of a chain is one
 chain_later : (limit : ℕ) (t : List ℕ) {p f : ℕ} (xs ys : List Record) → Chain limit t p (xs ++ ys) f → (q : ℕ) × Chain limit t q ys f
 chain_later limit t {p} [] ys c = (p, c)
-chain_later limit t (x ∷ xs) ys (next s c) = chain_later limit t xs ys c
+chain_later limit t {p} (x ∷ xs) ys (next s c) = chain_later limit t {p = p + length_of x} xs ys c
 
 -- the last N records of rs have at most N times 12 bytes and the limit
 pub last_most : (limit N : ℕ) (t : List ℕ) {f : ℕ} (rs : List Record) → Chain limit t prefix_length rs f → f ≤ last_start N rs + N * (12 + limit)

@@ -48,7 +48,7 @@ module _ (limit m : ℕ) (t : List ℕ) where
   first_whole [] ys c h = refl
   first_whole {p} (x ∷ xs) ys (next s c) h =
       let w = (within limit t p x s).1 in
-      rw (le-leb (x.place + length_of x) m (omega arith)) (ap (λ (l : List Record). x ∷ l) (first_whole xs ys c (omega arith)))
+      rw (le-leb (x.place + length_of x) m (omega arith)) (ap (λ (l : List Record). x ∷ l) (first_whole {p = p + length_of x} xs ys c (omega arith)))
 
 -- ---- the whole records, at two places
 
@@ -91,8 +91,8 @@ module _ (limit : ℕ) (t : List ℕ) where
       → (e : ℕ) × (e ≡ p + bytes_of xs) × (stands_at limit t e ≡ Sound y) × Chain limit t (e + length_of y) ys f
   unfolding bytes_of
   chain_split {p} [] y ys (next s c) = (p, omega arith, s, c)
-  chain_split (x ∷ xs) y ys (next s c) =
-      let i = chain_split xs y ys c in
+  chain_split {p} (x ∷ xs) y ys (next s c) =
+      let i = chain_split {p = p + length_of x} xs y ys c in
       (i.0, omega (arith, i.1), i.2, i.3)
 
   -- none of a chain is whole at its start

@@ -2,10 +2,11 @@
 //
 //     let scanned = held::scan(journal, rule, limit, entries, 1024);
 //
-// It is for programs that keep their index in a local: a function that holds entries by value is proved as any other, and one that lends
-// them as a slice isn't. Each call copies the entries, 24,576 bytes. A room above 1,024 is 1,024.
+// It is for programs that keep their index in a local: they hand the entries over by value, and only these functions lend them as a slice.
+// Each call copies the entries, 24,576 bytes. A room above 1,024 is 1,024.
 // The definitions are in specs/Held.antt.
 #![tactic(auto)]
+
 ghost use Rattle.std.specs.Prelude.{◌≡◌, min};
 ghost use Rattle.held.specs.Held.{held_scan, held_insert, held_lookup};
 

@@ -2,8 +2,7 @@
 -- Assumes nothing.
 use Rattle.std.specs.Prelude.{ℕ, Bool, ◌||◌, List, [], ◌∷◌, leb, ltb, eqb, get_or, replicate}
 use Rattle.fields.specs.Fields.{max32, pick}
-use Rattle.prefix.specs.Prefix.{prefix_answer, prefix_out}
-use Rattle.prefix.specs.Slots.{slot_length, slot_bytes, fresh_next, fresh_slots}
+use Rattle.prefix.specs.Slots.{slot_bytes, fresh_next, fresh_slots}
 use Rattle.prefix.specs.declared.FreshNext.{FreshNext}
 use Rattle.prefix.specs.declared.FreshNext.TheVariants.{Next, Exhausted}
 use Rattle.prefix.specs.declared.Header.{Header}
@@ -11,7 +10,6 @@ use Rattle.prefix.specs.declared.PrefixWritten.{PrefixWritten}
 use Rattle.prefix.specs.declared.PrefixWritten.TheVariants as prefixes
 use Rattle.prefix.specs.declared.Slot.{Slot}
 use Rattle.record.specs.Body.{plain, counter}
-use Rattle.record.specs.Seal.{seal_answer}
 use Rattle.record.specs.Write.{write_answer, write_out}
 use Rattle.record.specs.declared.Kind.{Kind}
 use Rattle.record.specs.declared.Kind.TheVariants.{Plain, Counter}

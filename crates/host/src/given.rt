@@ -26,6 +26,7 @@ pub(crate) fn kind_by(kind: u64, sender: u64) -> Kind
 }
 
 // The letters of a code; none where there are more than eight, so that the code is refused.
+#[tactic(auto, using(crate::proofs::Letters::too_many, crate::proofs::Letters::up_to_eight))]
 fn letters_by(letters: u64) -> u8
     ensures { result ≡ letters_by letters }
 {

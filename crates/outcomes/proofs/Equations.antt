@@ -74,7 +74,7 @@ abbrev pub lends : {T : Ended} {X : Lives T → Type 0} (read : (κs : Lives T) 
 lends {X = X} read last held all = record { Held = X; read = read; last = last; held = held; all = all }
 
 abbrev closed : {M : Type 1} (T : Ended) → Stated M T → Proved M T
-closed T C 𝓤 𝓛 mem run = closing 𝓛 T (C 𝓛 mem run)
+closed T C 𝓤 𝓛 mem run = closing 𝓛 T (C 𝓤 𝓛 mem run)
 
 -- ---- an equation of the result, where nothing is lent
 module _ {M : Type 1} {T : Ended} (R : Result T) (f : (κs : Lives T) → Args T.signature κs → R.view.Seen κs) where

@@ -2,27 +2,29 @@
 -- The entries that are lent are compared whole, also those that are not in use.
 -- Assumes nothing.
 use mathlib.Core.Path.{refl}
-use Rattle.journal.proofs as journal
+use mathlib.Core.List.{List}
+use Rattle.index.specs.declared.Entry.{Entry}
+use Rattle.journal.specs.contracts as journal
 use Rattle.outcomes.specs.OneOutcome.{OneOutcome, whole, content}
 use Rattle.outcomes.proofs.Equations.{answers, answers_and_leaves, value, part, lends}
 
-pub scan : {M : Type 1} → OneOutcome M journal.scan.ended journal.scan.clauses journal.scan.spec whole
-scan = answers_and_leaves value (lends (λ κs e. e.1.1.1.0.now) (λ κs a x. (tt, (tt, (tt, (x, tt))))) (λ κs a x. refl) (λ κs a ws. refl)) _ _
+pub scan : {M : Type 1} → OneOutcome M journal.scan.ended (λ 𝓤. journal.scan.clauses) (λ 𝓤. journal.scan.spec) whole
+scan = answers_and_leaves value (lends {T = journal.scan.ended} {X = λ κs. List Entry} (λ κs e. e.1.1.1.0.now) (λ κs a x. (tt, (tt, (tt, (x, tt))))) (λ κs a x. refl) (λ κs a ws. refl)) _ _
 
-pub reread : {M : Type 1} → OneOutcome M journal.reread.ended journal.reread.clauses journal.reread.spec whole
+pub reread : {M : Type 1} → OneOutcome M journal.reread.ended (λ 𝓤. journal.reread.clauses) (λ 𝓤. journal.reread.spec) whole
 reread = answers value _ (λ κs a. (tt, (tt, (tt, tt)))) (λ κs a ws. refl)
 
-pub frame_of : {M : Type 1} → OneOutcome M journal.frame_of.ended journal.frame_of.clauses journal.frame_of.spec (content (λ κs r. r))
+pub frame_of : {M : Type 1} → OneOutcome M journal.frame_of.ended (λ 𝓤. journal.frame_of.clauses) (λ 𝓤. journal.frame_of.spec) (content (λ κs r. r))
 frame_of = answers (part (λ κs r. r) (λ κs x. x) (λ κs x. refl)) _ (λ κs a. (tt, (tt, tt))) (λ κs a ws. refl)
 
-pub number_of : {M : Type 1} → OneOutcome M journal.answers.number_of.ended journal.answers.number_of.clauses journal.answers.number_of.spec whole
+pub number_of : {M : Type 1} → OneOutcome M journal.answers.number_of.ended (λ 𝓤. journal.answers.number_of.clauses) (λ 𝓤. journal.answers.number_of.spec) whole
 number_of = answers value _ (λ κs a. (tt, tt)) (λ κs a ws. refl)
 
-pub place_of : {M : Type 1} → OneOutcome M journal.answers.place_of.ended journal.answers.place_of.clauses journal.answers.place_of.spec whole
+pub place_of : {M : Type 1} → OneOutcome M journal.answers.place_of.ended (λ 𝓤. journal.answers.place_of.clauses) (λ 𝓤. journal.answers.place_of.spec) whole
 place_of = answers value _ (λ κs a. (tt, tt)) (λ κs a ws. refl)
 
-pub cut_of : {M : Type 1} → OneOutcome M journal.answers.cut_of.ended journal.answers.cut_of.clauses journal.answers.cut_of.spec whole
+pub cut_of : {M : Type 1} → OneOutcome M journal.answers.cut_of.ended (λ 𝓤. journal.answers.cut_of.clauses) (λ 𝓤. journal.answers.cut_of.spec) whole
 cut_of = answers value _ (λ κs a. (tt, tt)) (λ κs a ws. refl)
 
-pub dropped_of : {M : Type 1} → OneOutcome M journal.answers.dropped_of.ended journal.answers.dropped_of.clauses journal.answers.dropped_of.spec whole
+pub dropped_of : {M : Type 1} → OneOutcome M journal.answers.dropped_of.ended (λ 𝓤. journal.answers.dropped_of.clauses) (λ 𝓤. journal.answers.dropped_of.spec) whole
 dropped_of = answers value _ (λ κs a. (tt, tt)) (λ κs a ws. refl)

@@ -19,12 +19,12 @@ use contract.Monad.{Fun}
 use denote.Ref.{Bor}
 use denote.Triple.Entry.{Args, Res}
 use denote.Triple.Clauses.{Ended, ClausesAt, Clauses, Lasts, at_exit}
-use Rattle.fields.proofs as fields
-use Rattle.prefix.proofs as prefix
+use Rattle.fields.specs.contracts as fields
+use Rattle.prefix.specs.contracts as prefix
 use Rattle.index.specs.declared.Entry.{Entry}
 use Rattle.index.specs.Insert.{none}
-use Rattle.index.proofs as index
-use Rattle.journal.proofs as journal
+use Rattle.index.specs.contracts as index
+use Rattle.journal.specs.contracts as journal
 use Rattle.outcomes.specs.OneOutcome.{Lives, View, whole, OneAt}
 
 -- an outcome that fits as well when it is changed is not the only one
@@ -46,10 +46,10 @@ module _ {M : Type 1} (𝓤 : Ura M) (T : Ended) (κs : Lives T) (a : Args T.sig
 
 -- ---- a part, elsewhere
 abbrev moved : {X : Type 0} → Bor X → Bor X
-moved x = record { ref_ptr = (x.ref_ptr.0 + 1, x.ref_ptr.1); ghost_name = x.ghost_name; now = x.now }
+moved x = record { ref_ptr = (x.ref_ptr.0 + 1, x.ref_ptr.1); now = x.now }
 
 not_moved : {X : Type 0} (x : Bor X) → x ≡ moved x → ⊥
-not_moved x p = let h : x.ref_ptr.0 ≡ x.ref_ptr.0 + 1 = ap (λ y. y.ptr.0) p in omega (arith, h)
+not_moved x p = let h : x.ref_ptr.0 ≡ x.ref_ptr.0 + 1 = ap (λ y. y.ref_ptr.0) p in omega (arith, h)
 
 -- ---- one more entry
 not_longer : (es : List Entry) → es ≡ none ∷ es → ⊥
@@ -92,7 +92,7 @@ module _ {M : Type 1} {𝓤 : Ura M} (𝓛 : Logic 𝓤) (mem : Memory → SProp
     ghost = Unit {0};
     requires = λ g. emp 𝓤;
     ensures = λ g r e.
-        index.insert.ensures-1 𝓛 κs mem run a.0 a.1.0 a.1.1.0 a.1.1.1.0
+        index.insert.ensures-value 𝓛 κs mem run a.0 a.1.0 a.1.1.0 a.1.1.1.0
         (record { entry = a.0; exit = e.0 }) (record { entry = a.1.0; exit = e.1.0 })
         (record { entry = a.1.1.0; exit = e.1.1.0 }) (record { entry = a.1.1.1.0; exit = e.1.1.1.0 }) r;
   }
@@ -109,7 +109,7 @@ module _ {M : Type 1} {𝓤 : Ura M} (𝓛 : Logic 𝓤) (mem : Memory → SProp
     ghost = Unit {0};
     requires = λ g. emp 𝓤;
     ensures = λ g r e.
-        journal.scan.ensures-1 𝓛 κs mem run a.0 a.1.0 a.1.1.0 a.1.1.1.0
+        journal.scan.ensures-value 𝓛 κs mem run a.0 a.1.0 a.1.1.0 a.1.1.1.0
         (record { entry = a.0; exit = e.0 }) (record { entry = a.1.0; exit = e.1.0 })
         (record { entry = a.1.1.0; exit = e.1.1.0 }) (record { entry = a.1.1.1.0; exit = e.1.1.1.0 }) r;
   }

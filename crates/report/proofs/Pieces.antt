@@ -87,6 +87,10 @@ cut-over t s h =
 laid-over : (t s : List ℕ) → sets s 0 t ≡ over t s
 laid-over t s = min_cases (length t) (length s) (sets s 0 t ≡ over t s) (λ h _. whole_over t s h) (λ h _. cut-over t s h)
 
+-- `laid-over`, by a name that the source can cite
+pub whole_laid : (t s : List ℕ) → sets s 0 t ≡ over t s
+whole_laid t s = laid-over t s
+
 pub wrote_all : (t s : List ℕ) (r : ℕ) (s' : List ℕ) → Wrote 0 t s r s' → (r ≡ min (length t) (length s)) × (s' ≡ over t s)
 unfolding Wrote
 wrote_all t s r s' (er, es) = (er ∙ omega arith, es ∙ laid-over t s)

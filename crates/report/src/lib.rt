@@ -11,6 +11,7 @@
 // 28, a request that is unknown or short, comes before 29, a journal above 65,536 bytes, and both before what the scan refuses.
 // The definitions are in specs/: Text, Request, Report, in this order.
 #![tactic(auto)]
+
 ghost use Rattle.std.specs.Prelude.{◌≡◌, min, length, replicate};
 ghost use Rattle.index.specs.Insert.{none};
 ghost use Rattle.journal.specs.Scan.{scan_of, index_after};
@@ -43,6 +44,7 @@ fn read_back(journal: &[u8], rule: Rule, limit: u64, out: &mut [u8]) -> usize
 }
 
 // The text that answers a request, at the start of the buffer: how many bytes of it stand there. `over` says what the buffer holds.
+#[tactic(auto, using(crate::proofs::Answered::refused_whole, crate::proofs::Pieces::whole_laid), unfolding(crate::specs::Steps::Wrote))]
 pub fn report(input: &[u8], out: &mut [u8]) -> usize
     ensures value { result ≡ min (length (report_of input.now)) (length out.old) }
     ensures out_after { out.new ≡ over (report_of input.now) out.old }

@@ -30,6 +30,7 @@ fn head_of(kind: u8) -> usize
 }
 
 // 28 or 29, or 0 where neither is so.
+#[tactic(auto, using(crate::proofs::RequestCases::fault_unknown, crate::proofs::RequestCases::fault_short, crate::proofs::RequestCases::fault_long, crate::proofs::RequestCases::fault_none))]
 pub(crate) fn fault_of(input: &[u8]) -> u8
     ensures { result ≡ request_fault input.now }
 {

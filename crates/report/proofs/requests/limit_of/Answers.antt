@@ -1,0 +1,31 @@
+-- `report::requests::limit_of` meets its contract: the limit stands behind N, or where N would.
+-- Assumes nothing.
+use mathlib.Core.Path.{◌≡◌, sym, ◌∙◌}
+use native.Mathlib.Omega.{arith}
+use borrow.Author.Tests.{eq-eqb, ne_eqb}
+use Rattle.report.specs.Request.{kind_in, limit_in}
+use Rattle.report.proofs.RequestCases.{sound_short, sound_tail}
+use Rattle.report.proofs.requests.limit_of.Goals as goal
+
+pub u64_at-requires : goal.u64_at-requires
+u64_at-requires c =
+    let s = c.args.input.now in
+    let k : c.kind_of.result ≡ kind_in s = c.kind_of.ensures in
+    omega (arith, sound_tail s c.requires (sym k ∙ c.if-kind_of-eq1.true))
+
+pub returns-then-kind_of-eq1 : goal.returns-then-kind_of-eq1
+unfolding limit_in
+returns-then-kind_of-eq1 c =
+    let s = c.args.input.now in
+    let k : c.kind_of.result ≡ kind_in s = c.kind_of.ensures in
+    rw (eq-eqb _ _ (sym k ∙ c.if-kind_of-eq1.true), c.u64_at.ensures)
+
+pub u64_at-requires-2 : goal.u64_at-requires-2
+u64_at-requires-2 c = omega (arith, sound_short c.args.input.now c.requires)
+
+pub returns : goal.returns
+unfolding limit_in
+returns c =
+    let s = c.args.input.now in
+    let k : c.kind_of.result ≡ kind_in s = c.kind_of.ensures in
+    rw (ne_eqb (kind_in s) 1 (λ e. c.if-kind_of-eq1.false (k ∙ e)), c.u64_at-2.ensures)

@@ -1,4 +1,4 @@
-//! Links the program `checksum` with the library, `target/staticlib/libhost.a`, which `rt staticlib host` writes.
+//! Links the program `checksum` with the library, `target/staticlib/libhost.a`, which `tools/build host_c` writes.
 
 use std::path::Path;
 

@@ -1,6 +1,6 @@
 //! Measures the port's CRC-32 against the original's at 64 bytes, 4 KiB and 1 MiB.
 //!
-//!     rt staticlib host
+//!     tools/build host_c
 //!     cargo run --release --manifest-path bench/Cargo.toml       on an x86-64 machine
 //!     bench/run --checksum                                       on any, with the toolchain's own linker and emulator
 //!

@@ -1,6 +1,6 @@
 /* A small host of the journal: how the firmware of a gateway would start.
  *
- *     rt staticlib host
+ *     tools/build host_c
  *     cc -I include -o host examples/host.c target/staticlib/libhost.a
  *     ./host FILE
  *

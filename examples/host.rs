@@ -1,6 +1,6 @@
 //! A small host of the journal, in Rust: the same program as host.c, with the same output.
 //!
-//!     rt staticlib host
+//!     tools/build host_c
 //!     rustc --edition 2021 -O -o host examples/host.rs -C link-arg=target/staticlib/libhost.a
 //!     ./host FILE
 //!

@@ -1,4 +1,4 @@
-/* The IronFix journal, format version 4, for a host in C: link libhost.a, which `rt staticlib host` writes.
+/* The IronFix journal, format version 4, for a host in C: link libhost.a, which `tools/build host_c` writes.
  *
  * What the host sees to before a call. Nothing else has to be: every input is answered, by a number where it is refused.
  *

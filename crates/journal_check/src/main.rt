@@ -1,9 +1,11 @@
 // The check program: reads a request from standard input, a rule and a journal, and writes what a scan of the journal comes to.
 // Crate `report` says what a request is, and makes the text. Where the input can't be read, nothing is written.
 #![tactic(auto)]
+
 ghost use Rattle.std.specs.Prelude.{◌≡◌, ◌≤◌, length};
 
-use libc::{STDIN_FILENO, STDOUT_FILENO};
+use std::io;
+use std::io::Read;
 
 // What was read: how many bytes, and whether a read failed.
 #[derive(Drop)]
@@ -28,24 +30,28 @@ fn room_for_text() -> [u8; 90112]
 }
 
 // One read: no bytes where the input has ended, or the read failed.
-fn read_once(room: &mut [u8]) -> Received
+fn read_once(input: &mut impl Read, room: &mut [u8]) -> Received
     ensures { result.count ≤ length room.old }
 {
-    let got = libc::read(STDIN_FILENO, room);
-    let count = io::count(got, room);
-    Received {
-        count,
-        failed: got < 0,
+    match input.read(room) {
+        Ok(count) => Received {
+            count,
+            failed: false,
+        },
+        Err(_) => Received {
+            count: 0,
+            failed: true,
+        },
     }
 }
 
 // Reads until the input ends, the room is full or a read fails, whatever the sizes of the reads.
-fn receive(room: &mut [u8]) -> Received
+fn receive(input: &mut impl Read, room: &mut [u8]) -> Received
     ensures { result.count ≤ length room.old }
 {
     let mut count = 0;
     let failed = loop {
-        let next = read_once(&mut room[count..]);
+        let next = read_once(input, &mut room[count..]);
         if next.count == 0 {
             break next.failed;
         }
@@ -54,14 +60,14 @@ fn receive(room: &mut [u8]) -> Received
     Received { count, failed }
 }
 
-fn main() {
+fn main(rt: HostRuntime) -> io::Result<()> {
     let mut input = room_for_input();
-    let received = receive(&mut input);
+    let received = receive(&mut rt.stdin(), &mut input);
     if received.failed {
-        return;
+        return Ok(());
     }
     let count = received.count;
     let mut text = room_for_text();
     let n = report::report(&input[0..count], &mut text);
-    io::write_all(STDOUT_FILENO, &text[0..n]);
+    rt.write_all(&text[0..n])
 }

@@ -3,33 +3,35 @@
 // place, body limit, bytes, and the record or the test that fails. The file stdout was computed apart from this code, by another
 // language's CRC-32 and conversions.
 #![tactic(auto)]
+
 use fields::Cursor;
-use libc::STDOUT_FILENO;
 use record::{Kind, MsgType, Record, RecordSealed, RecordWritten, Row, Seen};
+use std::io;
 
-fn text(s: &[u8]) {
-    io::write_all(STDOUT_FILENO, s);
+fn text(rt: &impl Print, s: &[u8]) -> io::Result<()> {
+    rt.write_all(s)
 }
 
-fn number(x: u64) {
-    text(b" ");
-    io::print_decimal(STDOUT_FILENO, x);
+fn number(rt: &impl Print, x: u64) -> io::Result<()> {
+    print!(rt; " {x}")
 }
 
-fn bytes(s: &[u8]) {
+fn bytes(rt: &impl Print, s: &[u8]) -> io::Result<()> {
     let mut i = 0;
-    text(b" ");
+    text(rt, b" ")?;
     while i < s.len() {
-        io::print_hex(STDOUT_FILENO, s[i] as u64, 2);
+        let b = s[i];
+        print!(rt; "{b:02x}")?;
         i += 1;
     }
+    Ok(())
 }
 
-fn refused(x: u8, place: u64) {
-    text(b" refused");
-    number(x as u64);
-    text(b" at");
-    number(place);
+fn refused(rt: &impl Print, x: u8, place: u64) -> io::Result<()> {
+    text(rt, b" refused")?;
+    number(rt, x as u64)?;
+    text(rt, b" at")?;
+    number(rt, place)
 }
 
 // The code `D`, `D2345678`, or `D2345678` with a length that no code has.
@@ -49,123 +51,130 @@ fn letter(b: u8) -> MsgType {
 }
 
 // Message number 2, into all of the output.
-fn write(kind: Kind, c: MsgType, frame: &[u8], limit: u64, out: &mut [u8]) {
-    number(c.len as u64);
-    number(frame.len() as u64);
-    number(limit);
-    number(out.len() as u64);
+fn write(
+    rt: &impl Print,
+    kind: Kind,
+    c: MsgType,
+    frame: &[u8],
+    limit: u64,
+    out: &mut [u8],
+) -> io::Result<()> {
+    number(rt, c.len as u64)?;
+    number(rt, frame.len() as u64)?;
+    number(rt, limit)?;
+    number(rt, out.len() as u64)?;
     match record::encode_frame_record(out, kind, 2, c, frame, limit) {
         RecordWritten::Written(n) => {
-            text(b" written");
-            number(n as u64);
+            text(rt, b" written")?;
+            number(rt, n as u64)?;
         }
-        RecordWritten::NotWritten { number: x, place } => refused(x, place),
+        RecordWritten::NotWritten { number: x, place } => refused(rt, x, place)?,
     }
-    bytes(out);
-    text(b"\n");
+    bytes(rt, out)?;
+    text(rt, b"\n")
 }
 
 // Kind 1, into 30 bytes of 255.
-fn plain(c: MsgType, frame: &[u8], limit: u64) {
+fn plain(rt: &impl Print, c: MsgType, frame: &[u8], limit: u64) -> io::Result<()> {
     let mut out = [255u8; 30];
-    text(b"plain");
-    write(Kind::Plain, c, frame, limit, &mut out);
+    text(rt, b"plain")?;
+    write(rt, Kind::Plain, c, frame, limit, &mut out)
 }
 
 // The same, into 26 bytes.
-fn narrow(c: MsgType, frame: &[u8], limit: u64) {
+fn narrow(rt: &impl Print, c: MsgType, frame: &[u8], limit: u64) -> io::Result<()> {
     let mut out = [255u8; 26];
-    text(b"plain");
-    write(Kind::Plain, c, frame, limit, &mut out);
+    text(rt, b"plain")?;
+    write(rt, Kind::Plain, c, frame, limit, &mut out)
 }
 
 // Kind 5 with next sender 9, into 43 bytes.
-fn counter(c: MsgType, frame: &[u8], limit: u64) {
+fn counter(rt: &impl Print, c: MsgType, frame: &[u8], limit: u64) -> io::Result<()> {
     let mut out = [255u8; 43];
-    text(b"counter");
-    write(Kind::Counter { sender: 9 }, c, frame, limit, &mut out);
+    text(rt, b"counter")?;
+    write(rt, Kind::Counter { sender: 9 }, c, frame, limit, &mut out)
 }
 
 // Each refusal, and each before those that follow it.
-fn refusals() {
-    plain(code(9), b"8=FIX", 67108865);
-    narrow(code(9), b"8=FIX", 4);
-    narrow(code(9), b"8=FI", 4);
-    narrow(code(1), b"8=FI", 4);
-    plain(code(0), b"8=FI", 4);
-    plain(code(255), b"8=FI", 4);
-    plain(letter(0x20), b"8=FI", 4);
-    plain(letter(0x7f), b"8=FI", 4);
+fn refusals(rt: &impl Print) -> io::Result<()> {
+    plain(rt, code(9), b"8=FIX", 67108865)?;
+    narrow(rt, code(9), b"8=FIX", 4)?;
+    narrow(rt, code(9), b"8=FI", 4)?;
+    narrow(rt, code(1), b"8=FI", 4)?;
+    plain(rt, code(0), b"8=FI", 4)?;
+    plain(rt, code(255), b"8=FI", 4)?;
+    plain(rt, letter(0x20), b"8=FI", 4)?;
+    plain(rt, letter(0x7f), b"8=FI", 4)
 }
 
-fn written() {
-    plain(code(1), b"8=FI", 4);
-    plain(code(1), b"8=FI", 67108864);
-    plain(code(8), b"", 0);
-    plain(letter(0x21), b"8=FI", 4);
-    plain(letter(0x7e), b"8=FI", 4);
-    counter(code(1), b"8=FI", 4);
+fn written(rt: &impl Print) -> io::Result<()> {
+    plain(rt, code(1), b"8=FI", 4)?;
+    plain(rt, code(1), b"8=FI", 67108864)?;
+    plain(rt, code(8), b"", 0)?;
+    plain(rt, letter(0x21), b"8=FI", 4)?;
+    plain(rt, letter(0x7e), b"8=FI", 4)?;
+    counter(rt, code(1), b"8=FI", 4)
 }
 
 // So many bytes of 5, sealed with generation 7. Of 28, kind 5 is a byte short of room for a generation.
-fn seal(out: &mut [u8]) {
-    text(b"seal");
-    bytes(out);
+fn seal(rt: &impl Print, out: &mut [u8]) -> io::Result<()> {
+    text(rt, b"seal")?;
+    bytes(rt, out)?;
     match record::seal_frame_record(out, 7) {
-        RecordSealed::Sealed => text(b" sealed"),
-        RecordSealed::NotSealed { number: x, place } => refused(x, place),
+        RecordSealed::Sealed => text(rt, b" sealed")?,
+        RecordSealed::NotSealed { number: x, place } => refused(rt, x, place)?,
     }
-    bytes(out);
-    text(b"\n");
+    bytes(rt, out)?;
+    text(rt, b"\n")
 }
 
-fn seals() {
+fn seals(rt: &impl Print) -> io::Result<()> {
     let mut eleven = [5u8; 11];
-    seal(&mut eleven);
+    seal(rt, &mut eleven)?;
     let mut twelve = [5u8; 12];
-    seal(&mut twelve);
+    seal(rt, &mut twelve)?;
     let mut short = [5u8; 28];
-    seal(&mut short);
+    seal(rt, &mut short)?;
     let mut whole = [5u8; 29];
-    seal(&mut whole);
+    seal(rt, &mut whole)
 }
 
-fn found(r: Record) {
-    text(b" sound");
-    number(r.place);
-    number(r.body);
-    number(r.kind as u64);
-    number(r.number);
-    number(r.generation);
-    number(r.sender);
+fn found(rt: &impl Print, r: Record) -> io::Result<()> {
+    text(rt, b" sound")?;
+    number(rt, r.place)?;
+    number(rt, r.body)?;
+    number(rt, r.kind as u64)?;
+    number(rt, r.number)?;
+    number(rt, r.generation)?;
+    number(rt, r.sender)?;
     let c = record::code_of(r);
     let letters = c.bytes;
-    bytes(&letters);
-    number(c.len as u64);
-    number(r.frame);
+    bytes(rt, &letters)?;
+    number(rt, c.len as u64)?;
+    number(rt, r.frame)
 }
 
-fn row(row: Row) {
+fn row(rt: &impl Print, row: Row) -> io::Result<()> {
     match row {
-        Row::Under12 => text(b" under 12"),
-        Row::ComplementWrong => text(b" complement"),
-        Row::LengthWrong => text(b" length"),
-        Row::NotWhole => text(b" not whole"),
-        Row::CrcWrong => text(b" CRC"),
-        Row::BodyUnread => text(b" body"),
+        Row::Under12 => text(rt, b" under 12"),
+        Row::ComplementWrong => text(rt, b" complement"),
+        Row::LengthWrong => text(rt, b" length"),
+        Row::NotWhole => text(rt, b" not whole"),
+        Row::CrcWrong => text(rt, b" CRC"),
+        Row::BodyUnread => text(rt, b" body"),
     }
 }
 
-fn look(s: &[u8], at: usize, limit: u64) {
-    text(b"look");
-    number(at as u64);
-    number(limit);
-    bytes(s);
+fn look(rt: &impl Print, s: &[u8], at: usize, limit: u64) -> io::Result<()> {
+    text(rt, b"look")?;
+    number(rt, at as u64)?;
+    number(rt, limit)?;
+    bytes(rt, s)?;
     match record::seen_at(s, at, limit) {
-        Seen::Sound(r) => found(r),
-        Seen::Fault(r) => row(r),
+        Seen::Sound(r) => found(rt, r)?,
+        Seen::Fault(r) => row(rt, r)?,
     }
-    text(b"\n");
+    text(rt, b"\n")
 }
 
 // Number 2, kind 5, generation 7, sender 9.
@@ -189,53 +198,53 @@ fn cut(s: &[u8], n: usize) -> &[u8] {
     fields::run(s, fields::front(), n)
 }
 
-fn looks(s: &[u8]) {
-    look(s, 2, 31);
-    look(s, 2, 30);
-    look(s, 0, 31);
-    look(s, 45, 31);
-    look(s, 46, 31);
-    look(cut(s, 44), 2, 31);
-    look(cut(s, 44), 2, 30);
-    look(cut(s, 14), 2, 31);
-    look(cut(s, 13), 2, 31);
+fn looks(rt: &impl Print, s: &[u8]) -> io::Result<()> {
+    look(rt, s, 2, 31)?;
+    look(rt, s, 2, 30)?;
+    look(rt, s, 0, 31)?;
+    look(rt, s, 45, 31)?;
+    look(rt, s, 46, 31)?;
+    look(rt, cut(s, 44), 2, 31)?;
+    look(rt, cut(s, 44), 2, 30)?;
+    look(rt, cut(s, 14), 2, 31)?;
+    look(rt, cut(s, 13), 2, 31)
 }
 
-fn look_placed(w: [u8; 43]) {
+fn look_placed(rt: &impl Print, w: [u8; 43]) -> io::Result<()> {
     let s = placed(w);
-    look(&s, 2, 31);
+    look(rt, &s, 2, 31)
 }
 
 // A byte of the complement, of the CRC-32 and of the frame changed; a length of 0; and a body that doesn't read, sealed.
-fn damaged() {
+fn damaged(rt: &impl Print) -> io::Result<()> {
     let mut complement = filed();
     complement[4] = 0;
-    look_placed(complement);
+    look_placed(rt, complement)?;
     let mut crc = filed();
     crc[11] = 0;
-    look_placed(crc);
+    look_placed(rt, crc)?;
     let mut frame = filed();
     frame[42] = 0;
-    look_placed(frame);
+    look_placed(rt, frame)
 }
 
-fn unread() {
+fn unread(rt: &impl Print) -> io::Result<()> {
     let mut none = filed();
     none[0] = 0;
     none[4] = 255;
-    look_placed(none);
+    look_placed(rt, none)?;
     let mut kind = filed();
     kind[12] = 4;
     record::seal_frame_record(&mut kind, 7);
-    look_placed(kind);
+    look_placed(rt, kind)
 }
 
-fn main() {
-    refusals();
-    written();
-    seals();
+fn main(rt: HostRuntime) -> io::Result<()> {
+    refusals(&rt)?;
+    written(&rt)?;
+    seals(&rt)?;
     let s = placed(filed());
-    looks(&s);
-    damaged();
-    unread();
+    looks(&rt, &s)?;
+    damaged(&rt)?;
+    unread(&rt)
 }

@@ -1,6 +1,7 @@
 // The operations of the oracle's protocol (oracle/README.md) that read an index or a journal: each takes the request apart, calls the port, and
 // writes all that it left. The result is the answer's length, or 0 for a request that isn't one or whose answer the output is too short for.
 #![tactic(auto)]
+
 mod filing;
 mod indexes;
 mod scans;

@@ -1,6 +1,7 @@
 // The operations of the oracle's protocol (oracle/README.md) on fields, and the check program's: each takes the request apart, calls the
 // port, and writes all that it left. The result is the answer's length, or 0 for a request that isn't one.
 #![tactic(auto)]
+
 mod cursors;
 
 use fields::Cursor;

@@ -1,5 +1,5 @@
 -- A function that is one `match` on a number, with an arm for each entry of a list, from key 0 on: at key k it answers the entry at k.
--- The toolchain's own walk of a `match` has a need for each arm, and isn't made past 512 of them. This law goes by the list, whatever its length.
+-- The toolchain's own walk of a `match` has a goal for each arm, and isn't made past 512 of them. This law goes by the list, whatever its length.
 --     fn_of             the function's MIR, from its entries
 --     stored_by         the entries, from its MIR: so that no proof has a copy of them
 --     matched          its contract, where the entry at each key meets it

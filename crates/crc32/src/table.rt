@@ -1,5 +1,5 @@
 // The table of CRC-32: 2,048 entries, eight rows of 256. The entry of a byte in row j is what a register of 0 becomes after the byte and j
-// bytes of 0. It is a `match`, which the compiler keeps in the program's data, where an array would be stored on the stack by each call.
+// bytes of 0. It is a `match`, which the compiler keeps in the program's data: no call stores it anew.
 ghost use Rattle.std.specs.Prelude.{◌≡◌, ◌<◌};
 ghost use Rattle.crc32.specs.Crc.{next};
 ghost use Rattle.crc32.specs.Rows.{row_entry};

@@ -10,7 +10,7 @@ use crate::{
 };
 
 // Reads fields front to back, never past the end: where a field's bytes are not all there, it takes nothing and stays.
-#[derive(Drop)]
+#[derive(Clone, Copy)]
 pub struct Reader<'a> {
     pub bytes: &'a [u8],
     pub at: usize,

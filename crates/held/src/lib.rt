@@ -15,14 +15,14 @@ use journal::Rule;
 use journal::answers::Scan;
 
 // What a scan answers, and the entries that it left.
-#[derive(Drop)]
+#[derive(Clone, Copy)]
 pub struct Scanned {
     pub scan: Scan,
     pub entries: [Entry; 1024],
 }
 
 // What filing an entry answers, and the entries that it left.
-#[derive(Drop)]
+#[derive(Clone, Copy)]
 pub struct Inserted {
     pub filed: Filed,
     pub entries: [Entry; 1024],

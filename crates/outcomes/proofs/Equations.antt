@@ -1,10 +1,11 @@
 -- One law gives every function its one outcome (`one_law`): an outcome that fits is the only one, if whatever fits is equal to it.
 -- Contracts here are equations, of the result, of what is lent, or of both: `answers`, `leaves`, `answers_and_leaves`.
--- A function's theorem is one of the three. What the equations say is not written again: `_` is read off the contract.
+-- A function's theorem is one of the three. What the equations say is not written again, but in one place: `_` is read off the contract.
 --     by value, nothing lent           answers value _ (λ κs a. (tt, tt)) (λ κs a ws. refl): a `tt` for each parameter, and one more
 --     a part handed back               answers (part (λ κs r. r) (λ κs x. x) (λ κs x. refl)) _ and the rest as above
---     by value, a `&mut` parameter     answers_and_leaves value (lends (λ κs e. now e.0) (λ κs a x. (x, tt)) (λ κs a x. refl) (λ κs a ws. refl)) _ _
---                                      with `e.0`, `e.1.0`, .. by the parameter's place, and x at that place among the `tt`
+--     by value, a `&mut` parameter     answers_and_leaves value (lends (λ κs e. e.0.now) (λ κs a x. (x, tt)) (λ κs a x. refl) (λ κs a ws. refl)) _ _
+--                                      with `e.0`, `e.1.0`, .. by the parameter's place, and x at that place among the `tt`; `lends` is told the
+--                                      function, as {T = f.ended}, and what is held, as {X = λ κs. List ℕ}
 --     no result, a `&mut` parameter    leaves (lends and so on) _ (λ κs. tt) (λ κs r. refl)
 -- Assumes nothing.
 use mathlib.Core.Path.{◌≡◌, refl, sym, ◌∙◌, ap}

@@ -3,7 +3,7 @@
 -- An outcome is a result r and last values ws: for each parameter that is lent as `&mut` what stands in it at exit, of a slice the whole list.
 -- A clause reads the exit as `at_exit` of the arguments and ws, so nothing else of the exit can differ.
 --     View           what is compared of two results. `whole`: the results themselves. `content`: of a part handed back by reference, its bytes;
---                    a reference is also an address and a ghost name, and no contract says these
+--                    a reference is also an address, and no contract says that
 --     Fits P r ws    whoever knows P knows what `ensures` says of the outcome r, ws
 --     OneAt          at given lifetimes and arguments: a caller brings nothing, some outcome fits, and of two that fit
 --                    what is seen of the results is equal, and so are all last values

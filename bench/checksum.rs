@@ -2,7 +2,7 @@
 //!
 //!     tools/build host_c
 //!     cargo run --release --manifest-path bench/Cargo.toml       on an x86-64 machine
-//!     bench/run --checksum                                       on any, with the toolchain's own linker and emulator
+//!     bench/run --checksum                                       with the toolchain's own linker
 //!
 //! The port is `libhost.a`, as a host links it; the original is IronFix's `crc32.rs`, compiled unchanged by the oracle's package.
 //!

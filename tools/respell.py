@@ -1,7 +1,7 @@
 #!/usr/bin/env python3
 """Brings the names of this repository's definitions and lemmas to snake case, by the table respell.tsv beside this file.
 
-usage: python3 tools/respell.py      at the top of the repository, once, after /opt/rattle/port/port.py
+usage: python3 tools/respell.py      at the top of the repository, once, after the toolchain's port/port.py
 
 It turns whole words: in .antt, .rt and .edit files below crates/, and in the code spans of README.md, docs/, oracle/ and samples/. A name with a
 dash turns in antt's code and in code spans alone, since it may be two English words elsewhere. A dash stays between two names of functions, as in

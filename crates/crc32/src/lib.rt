@@ -67,7 +67,9 @@ fn bytewise(state: u32, bytes: &[u8]) -> u32
     c
 }
 
-// The register after the bytes, from the register before them.
+// The register after the bytes, from the register before them. It stays one function, which its callers call: put in line in a scan it takes
+// more instructions (docs/DECISIONS.md, CRC-32).
+#[inline(never)]
 #[tactic(auto, using(crate::proofs::Rows::eight_on))]
 pub fn update(state: u32, bytes: &[u8]) -> u32
     ensures { result ≡ crc_from state bytes.now }

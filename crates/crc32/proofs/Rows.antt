@@ -11,7 +11,7 @@ use native.Mathlib.Nat.{mod-lt, mod-eq_of_lt, le_of_suc-le-suc, not-suc-le-zero,
 use native.Mathlib.Numerals.{add-one}
 use native.Mathlib.Omega.{arith}
 use lib.Pow.{shr-shr, high, low}
-use lib.Bits.{bit_xor, bit_and, and_mask, xor_lt, xor_mod, xor_shifted, xor_zero_l, xor_zero_r, xor_comm}
+use lib.Bits.{bit_xor, bit_and, and_mask, xor_mod, xor_shifted, xor_zero_l, xor_zero_r, xor_comm}
 use lib.Dec.{lit<}
 use lib.ListN.{length, get_or, take, drop, length-drop, length-append, drop_of_length-le, get_or-append}
 use lib.Seq.{drop-cons, take_all, get_or-drop, get_or-append-add}
@@ -181,9 +181,8 @@ module _ (x : ℕ) (s : List ℕ) (small : Bytes s) (many : length s ≡ 8) wher
       ∙ ap (λ (n : ℕ). bit_xor (crc_from 0 (drop n t)) (row_entry (256 * j + get_or t (7 - j) 0))) (sym done)
 
   -- after all of them; the register c was put into the first four, and goes through with them
-  pub all_rows : (c j : ℕ) → j ≡ 8 → x ≡ bit_xor c (le 4 s 0) → c < 2 ^ 32 → le 4 s 0 < 2 ^ 32 → crc_from 0 (drop (8 - j) (eight_of x s)) ≡ crc_from c s
-  all_rows c j e ex hc hw =
-      let hx : x < 2 ^ 32 = subst (λ (n : ℕ). n < 2 ^ 32) (sym ex) (xor_lt 32 c (le 4 s 0) hc hw) in
+  pub all_rows : (c j : ℕ) → j ≡ 8 → x ≡ bit_xor c (le 4 s 0) → x < 2 ^ 32 → crc_from 0 (drop (8 - j) (eight_of x s)) ≡ crc_from c s
+  all_rows c j e ex hx =
       ap (λ (n : ℕ). crc_from 0 (drop (8 - n) (eight_of x s))) e
       ∙ crc_from-append 0 (le_bytes 4 x) (drop 4 s)
       ∙ ap (λ (d : ℕ). crc_from d (drop 4 s)) (mixed 4 c x s small (omega (arith, many)) ex hx)

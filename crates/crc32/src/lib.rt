@@ -35,7 +35,7 @@ fn row_byte(x: u32, bytes: &[u8; 8], row: usize) -> u8
 }
 
 // The register after eight bytes. Rows go up, and so the bytes down: the last four don't wait for the register.
-#[tactic(auto, using(crate::proofs::Rows::no_row, crate::proofs::Rows::one_row, crate::proofs::Rows::all_rows))]
+#[tactic(auto, using(crate::proofs::Rows::no_row, crate::proofs::Rows::one_row, crate::proofs::Rows::all_rows, crate::proofs::Xor::xor_small))]
 fn eight(c: u32, bytes: &[u8; 8]) -> u32
     ensures { result ≡ crc_from c bytes.now }
 {

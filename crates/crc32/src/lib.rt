@@ -17,7 +17,7 @@ ghost use Rattle.crc32.specs.Crc.{crc_from, crc_of, crc_on};
 mod table;
 
 use crate::table::{entry, low};
-use fields::inside::u32_at;
+use fields::inside::number_at;
 
 // The register at the start, and what the register at the end is complemented by.
 const ONES: u32 = 0xffff_ffff;
@@ -40,7 +40,7 @@ fn eight(c: u32, bytes: &[u8], i: usize) -> u32
     requires { i + 8 ≤ length bytes.now }
     ensures { result ≡ crc_from c (take 8 (drop i bytes.now)) }
 {
-    let x = c ^ u32_at(bytes, i);
+    let x = c ^ number_at::<u32>(bytes, i);
     let mut r = 0;
     let mut row = 0;
     while row < 8 {

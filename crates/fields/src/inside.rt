@@ -1,15 +1,8 @@
-// For the layers above: numbers and runs of bytes whose caller has shown that they fit, and a bool as a number. No user needs this module.
+// For the layers above: numbers and runs of bytes whose caller has shown that they fit. No user needs this module.
 #![tactic(auto, using(crate::proofs::Put::mid_put, crate::proofs::Put::byte_put), unfolding(crate::specs::Fields::le, crate::specs::Fields::le_bytes))]
 
 ghost use Rattle.std.specs.Prelude.{◌≡◌, ℕ, ◌+◌, ◌≤◌, length, replicate};
-ghost use Rattle.fields.specs.Fields.{bit_of, le, le_bytes, put};
-
-// Yes is 1, no is 0.
-pub fn bit(yes: bool) -> u64
-    ensures { result ≡ bit_of yes }
-{
-    u64::from(yes)
-}
+ghost use Rattle.fields.specs.Fields.{le, le_bytes, put};
 
 // A number of a fixed size, whose bytes stand with the lowest first.
 pub trait Number: Copy {

@@ -11,7 +11,7 @@ use Rattle.crc32.proofs.eight.Goals as goal
 pub loop-row-init : goal.loop-row-init
 loop-row-init c =
     let a = c.args in
-    let word = c.u32_at.result in
+    let word = c.number_at.result in
     (search rules, no_row a.c (bit_xor a.c word) a.bytes.now a.i (λ k. (c.type_inv.bytes k).fits) c.requires)
 
 pub loop-row-preserved : goal.loop-row-preserved
@@ -20,7 +20,7 @@ loop-row-preserved c =
     let begun = at-loop in
     let a = begun.args in
     let small : Bytes a.bytes.now = λ k. (c.type_inv.bytes k).fits in
-    let x = bit_xor a.c at-loop.u32_at.result in
+    let x = bit_xor a.c at-loop.number_at.result in
     let row = at-loop.loop-row.row in (
       omega arith,
       one_row a.c x a.bytes.now a.i small begun.requires row at-loop.loop-row.r c.entry-r.result c.row_byte.result (omega arith)
@@ -33,7 +33,7 @@ returns c =
     let begun = at-loop in
     let a = begun.args in
     let small : Bytes a.bytes.now = λ k. (c.type_inv.bytes k).fits in
-    let word = at-loop.u32_at in
+    let word = at-loop.number_at in
     let x = bit_xor a.c word.result in
     all_rows a.c x a.bytes.now a.i small begun.requires at-loop.loop-row.row at-loop.loop-row.r (omega arith) at-loop.loop-row.invariant.1
     (ap (bit_xor a.c) word.ensures) (xor_lt 32 a.c word.result begun.ranges.c.fits word.type_inv)

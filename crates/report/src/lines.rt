@@ -4,7 +4,6 @@ ghost use Rattle.report.specs.Report.{cut_text, counters_text, slot_text, open_l
 ghost use Rattle.report.specs.Steps.{Wrote};
 
 use crate::words::{put_field, put_run};
-use fields::inside::bit;
 use held::within;
 use index::Entry;
 use journal::answers::Scan;
@@ -37,8 +36,8 @@ fn put_slot(out: &mut [u8], at: usize, found: Scan) -> usize
     ensures { Wrote at (slot_text found) out.old result out.new }
 {
     let a = put_field(out, at, b" active=", found.active as u64);
-    let b = put_field(out, a, b" stale=", bit(found.stale));
-    let c = put_field(out, b, b" reset=", bit(found.reset));
+    let b = put_field(out, a, b" stale=", u64::from(found.stale));
+    let c = put_field(out, b, b" reset=", u64::from(found.reset));
     let d = put_field(out, c, b" watermark=", found.watermark);
     put_field(out, d, b" boundary=", found.boundary)
 }

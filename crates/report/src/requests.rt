@@ -2,7 +2,7 @@
 ghost use Rattle.std.specs.Prelude.{◌≡◌};
 ghost use Rattle.report.specs.Request.{kind_in, head_of, rule_in, limit_in, journal_in, request_fault};
 
-use fields::inside::u64_at;
+use fields::inside::number_at;
 use journal::Rule;
 
 fn kind_of(input: &[u8]) -> u8
@@ -54,7 +54,7 @@ pub(crate) fn rule_of(input: &[u8]) -> Rule
     let kind = kind_of(input);
     if kind == 1 {
         return Rule::Tail {
-            records: u64_at(input, 1),
+            records: number_at(input, 1),
         };
     }
     if kind == 2 {
@@ -68,9 +68,9 @@ pub(crate) fn limit_of(input: &[u8]) -> u64
     ensures { result ≡ limit_in input.now }
 {
     if kind_of(input) == 1 {
-        return u64_at(input, 9);
+        return number_at(input, 9);
     }
-    u64_at(input, 1)
+    number_at(input, 1)
 }
 
 pub(crate) fn journal_of(input: &[u8]) -> &[u8]

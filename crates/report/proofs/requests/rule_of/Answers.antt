@@ -7,8 +7,8 @@ use Rattle.report.specs.Request.{kind_in, rule_in}
 use Rattle.report.proofs.RequestCases.{sound_tail}
 use Rattle.report.proofs.requests.rule_of.Goals as goal
 
-pub u64_at-requires : goal.u64_at-requires
-u64_at-requires c =
+pub number_at-requires : goal.number_at-requires
+number_at-requires c =
     let s = c.args.input.now in
     let k : c.kind_of-kind.result ≡ kind_in s = c.kind_of-kind.ensures in
     omega (arith, sound_tail s c.requires (sym k ∙ c.if-kind-eq1.true))
@@ -18,7 +18,7 @@ unfolding rule_in
 returns-then-kind-eq1 c =
     let s = c.args.input.now in
     let k : c.kind_of-kind.result ≡ kind_in s = c.kind_of-kind.ensures in
-    rw (eq-eqb _ _ (sym k ∙ c.if-kind-eq1.true), c.u64_at.ensures)
+    rw (eq-eqb _ _ (sym k ∙ c.if-kind-eq1.true), c.number_at.ensures)
 
 pub returns-then-kind-eq2 : goal.returns-then-kind-eq2
 unfolding rule_in

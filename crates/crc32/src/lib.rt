@@ -16,7 +16,7 @@ ghost use Rattle.crc32.specs.Crc.{next, crc_from, crc_of, crc_on};
 mod table;
 
 use crate::table::entry;
-use fields::inside::u32_at;
+use fields::inside::number_at;
 
 // The register at the start, and what the register at the end is complemented by.
 const ONES: u32 = 0xffff_ffff;
@@ -39,7 +39,7 @@ fn row_byte(x: u32, bytes: &[u8; 8], row: usize) -> u8
 fn eight(c: u32, bytes: &[u8; 8]) -> u32
     ensures { result ≡ crc_from c bytes.now }
 {
-    let x = c ^ u32_at(bytes, 0);
+    let x = c ^ number_at::<u32>(bytes, 0);
     let mut r = 0;
     for row in 0..8 {
         r ^= entry(row, row_byte(x, bytes, row));

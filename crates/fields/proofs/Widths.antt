@@ -37,3 +37,5 @@ le-add (suc n) m s p =
     let e = le-add n m s (suc p) in
     let k : suc p + n ≡ p + suc n = suc-add p n ∙ sym (add-suc p n) in
     rw (suc-add n m, e, k, pow-succ' 256 n, mul_assoc) (omega arith)
+
+pub ruleset sizes = (le_bytes-length)

@@ -31,7 +31,7 @@ use Rattle.crc32.proofs.Joined.{crc_from-append, from_then}
 abbrev pub Bytes : List ℕ → Type 0
 Bytes s = (k : ℕ) → get_or s k 0 < 2 ^ 8
 
-none : Bytes []
+pub none : Bytes []
 none zero = lit< tt
 none (suc k) = lit< tt
 

@@ -71,7 +71,7 @@ put-part v s p h =
     (ap (take (length v)) (drop_at (take p s) (v ++ drop (p + length v) s) p (length-take-le p s h)) ∙ take_at v (drop (p + length v) s) (length v) refl)
 
 -- a field's bytes are those of the part that it stands in
-le-within : (m n : ℕ) (s : List ℕ) (p k : ℕ) → k + m ≤ n → le m (part n s p) k ≡ le m s (p + k)
+pub le-within : (m n : ℕ) (s : List ℕ) (p k : ℕ) → k + m ≤ n → le m (part n s p) k ≡ le m s (p + k)
 unfolding le
 le-within zero n s p k w = refl
 le-within (suc m) n s p k w =

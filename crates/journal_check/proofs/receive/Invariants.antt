@@ -5,8 +5,8 @@ use Prim.Native.Nat.{◌-◌, ◌≤◌}
 use lib.ListN.{length}
 use Rattle.journal_check.proofs.receive.Given as goal
 
-abbrev pub invariant-loop-count : goal.invariant-loop-count
-invariant-loop-count g l = (l.count ≤ length l.room) × (length l.room ≡ length l.initial.room)
+abbrev pub invariant-loop-next : goal.invariant-loop-next
+invariant-loop-next g l = (l.count ≤ length l.room) × (length l.room ≡ length l.initial.room)
 
-abbrev pub decreases-loop-count : goal.decreases-loop-count
-decreases-loop-count g l = length l.room - l.count
+abbrev pub decreases-loop-next : goal.decreases-loop-next
+decreases-loop-next g l = length l.room - l.count

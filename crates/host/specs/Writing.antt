@@ -18,6 +18,9 @@ use Rattle.record.specs.declared.RecordSealed.{RecordSealed}
 use Rattle.record.specs.declared.RecordSealed.TheVariants.{Sealed, NotSealed}
 use Rattle.record.specs.declared.RecordWritten.{RecordWritten}
 use Rattle.record.specs.declared.RecordWritten.TheVariants.{Written, NotWritten}
+use Rattle.refusals.specs.declared.Reason.{Reason}
+use Rattle.refusals.specs.declared.Reason.TheVariants.{Unknown}
+use Rattle.refusals.specs.Refusals.{number_in}
 use Rattle.host.specs.declared.Code.{Code}
 use Rattle.host.specs.declared.Counters.{Counters}
 use Rattle.host.specs.declared.Fresh.{Fresh}
@@ -50,6 +53,10 @@ refused_write number place = record { number = number; place = place; length = 0
 abbrev pub record_wrote : RecordWritten → Wrote
 record_wrote (Written n) = record { number = 0; place = 0; length = n }
 record_wrote (NotWritten number place) = refused_write number place
+
+-- a reason alone: its number, and zeros
+abbrev pub wrote_for : Reason → Wrote
+wrote_for r = refused_write (number_in r) 0
 
 -- 28 where no record has the kind; the output doesn't change then
 unfoldable pub host_wrote : (out : List ℕ) (kind sender number : ℕ) → Code → (frame : List ℕ) (limit : ℕ) → Wrote
@@ -106,15 +113,21 @@ abbrev pub fresh_of : FreshNext → List (List ℕ) → Fresh
 fresh_of (Next n) images = record { number = 0; place = 0; next = n; slots = slots_of images }
 fresh_of (Exhausted number place) images = record { number = number; place = place; next = 0; slots = slots_of images }
 
+abbrev pub fresh_for : Reason → Fresh
+fresh_for r = record { number = number_in r; place = 0; next = 0; slots = record { zero = replicate 52 0; one = replicate 52 0 } }
+
 abbrev pub refused_fresh : Fresh
-refused_fresh = record { number = 28; place = 0; next = 0; slots = record { zero = replicate 52 0; one = replicate 52 0 } }
+refused_fresh = fresh_for Unknown
 
 unfoldable pub host_fresh : Counters → Fresh
 host_fresh c = pick (is_yes_no c.reset) (fresh_of (fresh_next c.generation) (fresh_slots (slot_by c))) refused_fresh
 
 -- one as it is written, or 28 with zeros
+abbrev pub image_for : Reason → Image
+image_for r = record { number = number_in r; place = 0; bytes = replicate 52 0 }
+
 abbrev pub refused_image : Image
-refused_image = record { number = 28; place = 0; bytes = replicate 52 0 }
+refused_image = image_for Unknown
 
 unfoldable pub host_image : Counters → Image
 host_image c = pick (is_yes_no c.reset) (record { number = 0; place = 0; bytes = slot_bytes (slot_by c) }) refused_image

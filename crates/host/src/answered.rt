@@ -1,12 +1,14 @@
 // What the layers below answer to writing, as numbers and bytes for a host.
 ghost use Rattle.std.specs.Prelude.{◌≡◌};
-ghost use Rattle.host.specs.Writing.{refused_write, record_wrote, prefix_wrote, sealed_as, slots_of, fresh_of, refused_fresh, refused_image};
+ghost use Rattle.host.specs.Host.{found_for};
+ghost use Rattle.host.specs.Writing.{refused_write, record_wrote, prefix_wrote, sealed_as, fresh_of, wrote_for, fresh_for, image_for};
 
-use crate::{Fresh, Image, Sealed, Slots, Wrote};
+use crate::{Found, Fresh, Image, Sealed, Slots, Wrote};
 use prefix::{FreshNext, PrefixWritten};
 use record::{RecordSealed, RecordWritten};
+use refusals::Reason;
 
-pub(crate) fn refused_write(number: u64, place: u64) -> Wrote
+fn refused_write(number: u64, place: u64) -> Wrote
     ensures { result ≡ refused_write number place }
 {
     Wrote {
@@ -57,18 +59,10 @@ pub(crate) fn sealed_as(answer: RecordSealed) -> Sealed
     }
 }
 
-fn slots_of(images: [[u8; 52]; 2]) -> Slots
-    ensures { result ≡ slots_of images }
-{
-    let zero = images[0];
-    let one = images[1];
-    Slots { zero, one }
-}
-
 pub(crate) fn fresh_of(next: FreshNext, images: [[u8; 52]; 2]) -> Fresh
     ensures { result ≡ fresh_of next images }
 {
-    let slots = slots_of(images);
+    let slots = Slots::from(images);
     match next {
         FreshNext::Next(generation) => Fresh {
             number: 0,
@@ -85,28 +79,48 @@ pub(crate) fn fresh_of(next: FreshNext, images: [[u8; 52]; 2]) -> Fresh
     }
 }
 
-// No slot has that for a yes or no: 28, and zeros.
-pub(crate) fn refused_fresh() -> Fresh
-    ensures { result ≡ refused_fresh }
-{
-    Fresh {
-        number: 28,
-        place: 0,
-        next: 0,
-        slots: Slots {
-            zero: [0; 52],
-            one: [0; 52],
-        },
+// ---- a request that isn't one: the number of the reason, and zeros
+
+impl From<Reason> for Found {
+    ghost from_gives = { λ r f. f ≡ found_for r };
+
+    fn from(reason: Reason) -> Found {
+        Found {
+            number: reason.number() as u64,
+            ..Found::default()
+        }
     }
 }
 
-// The same of one image.
-pub(crate) fn refused_image() -> Image
-    ensures { result ≡ refused_image }
-{
-    Image {
-        number: 28,
-        place: 0,
-        bytes: [0; 52],
+impl From<Reason> for Wrote {
+    ghost from_gives = { λ r w. w ≡ wrote_for r };
+
+    fn from(reason: Reason) -> Wrote {
+        Wrote {
+            number: reason.number() as u64,
+            ..Wrote::default()
+        }
+    }
+}
+
+impl From<Reason> for Fresh {
+    ghost from_gives = { λ r f. f ≡ fresh_for r };
+
+    fn from(reason: Reason) -> Fresh {
+        Fresh {
+            number: reason.number() as u64,
+            ..Fresh::default()
+        }
+    }
+}
+
+impl From<Reason> for Image {
+    ghost from_gives = { λ r i. i ≡ image_for r };
+
+    fn from(reason: Reason) -> Image {
+        Image {
+            number: reason.number() as u64,
+            ..Image::default()
+        }
     }
 }

@@ -17,12 +17,9 @@ fn number(rt: &impl Print, x: u64) -> io::Result<()> {
 }
 
 fn bytes(rt: &impl Print, s: &[u8]) -> io::Result<()> {
-    let mut i = 0;
     text(rt, b" ")?;
-    while i < s.len() {
-        let b = s[i];
+    for b in s {
         print!(rt; "{b:02x}")?;
-        i += 1;
     }
     Ok(())
 }
@@ -195,7 +192,7 @@ fn placed(w: [u8; 43]) -> [u8; 45] {
 
 // The first n bytes.
 fn cut(s: &[u8], n: usize) -> &[u8] {
-    fields::run(s, fields::front(), n)
+    fields::run(s, fields::FRONT, n)
 }
 
 fn looks(rt: &impl Print, s: &[u8]) -> io::Result<()> {

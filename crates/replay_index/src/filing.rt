@@ -1,102 +1,49 @@
 // Operations 16, insert, and 17, lookup.
-ghost use Rattle.std.specs.Prelude.{◌≤◌};
-
 use crate::indexes;
-use fields::Cursor;
+use fields::{Reader, Writer};
 use index::{Entry, Filed, Found};
 
-// The answer to an insertion, up to the index.
-fn put_filed(out: &mut [u8], filed: Filed) -> Cursor {
-    let c = framed::begin(out, filed.number, 0);
-    let c1 = fields::put_u64(out, c, filed.count as u64);
-    fields::put_u64(out, c1, filed.dead)
-}
-
-// The answer to an insertion, whose request has the entries up to `at`.
-fn insert_in(request: &[u8], room: usize, at: usize, out: &mut [u8]) -> usize
-    requires { (room ≤ 1024) × (at ≤ 24581) }
-{
-    let inserted = held::insert(
-        indexes::entries_at(request, 5, room),
-        room,
-        framed::u64_at(request, at) as usize,
-        framed::u64_at(request, at + 8),
-        indexes::entry_at(request, at + 16),
-    );
-    let filed = inserted.filed;
-    let left = inserted.entries;
-    let c = put_filed(out, filed);
-    let end = indexes::put_index(out, c, left, room);
-    end.at
-}
-
 // Operation 16: the index, count, dead bytes and an entry; that entry is filed.
-pub(crate) fn insert(request: &[u8], out: &mut [u8]) -> usize {
-    let room = indexes::room_at(request, 1);
-    if 1024 < room {
-        return 0;
-    }
-    let at = 5 + 24 * room;
-    if request.len() != at + 40 {
-        return 0;
-    }
+pub(crate) fn insert(mut from: Reader, out: &mut [u8]) -> Option<usize> {
+    let (entries, room) = indexes::index(&mut from)?;
+    let count = from.number::<u64>()? as usize;
+    let dead = from.number()?;
+    let entry = indexes::entry(&mut from)?;
+    framed::end(from)?;
     if out.len() < 29 + 24 * room {
-        return 0;
+        return None;
     }
-    insert_in(request, room, at, out)
+    let inserted = held::insert(entries, room, count, dead, entry);
+    let filed = inserted.filed;
+    let mut to = framed::begin(out, filed.number, 0);
+    to.put_number(filed.count as u64);
+    to.put_number(filed.dead);
+    indexes::put_index(&mut to, inserted.entries, room);
+    Some(to.at)
 }
 
-// What was found as an entry, zeros where nothing was.
-fn entry_of(found: Found) -> Entry {
+// Whether an entry was found, and the entry, zeros where none was.
+fn put_found(to: &mut Writer, found: Found) {
     match found {
-        Found::At(entry) => entry,
-        Found::Nothing => Entry {
-            number: 0,
-            offset: 0,
-            body: 0,
-        },
+        Found::At(entry) => {
+            to.put_number(1u8);
+            indexes::put_entry(to, entry);
+        }
+        Found::Nothing => to.put(&[0; 25]),
     }
-}
-
-// Whether an entry was found: 1 or 0.
-fn is_found(found: Found) -> u8 {
-    match found {
-        Found::At(_) => 1,
-        Found::Nothing => 0,
-    }
-}
-
-// The answer to a lookup, up to the index.
-fn put_found(out: &mut [u8], found: Found) -> Cursor {
-    let c = framed::begin(out, 0, 0);
-    let c1 = fields::put_u8(out, c, is_found(found));
-    indexes::put_entry(out, c1, entry_of(found))
-}
-
-// The answer to a lookup, whose request has the entries up to `at`.
-fn lookup_in(request: &[u8], room: usize, at: usize, out: &mut [u8]) -> usize
-    requires { (room ≤ 1024) × (at ≤ 24581) }
-{
-    let entries = indexes::entries_at(request, 5, room);
-    let count = framed::u64_at(request, at) as usize;
-    let found = held::lookup(entries, room, count, framed::u64_at(request, at + 8));
-    let c = put_found(out, found);
-    let end = indexes::put_index(out, c, entries, room);
-    end.at
 }
 
 // Operation 17: the index, count and a message number; its entry is looked up.
-pub(crate) fn lookup(request: &[u8], out: &mut [u8]) -> usize {
-    let room = indexes::room_at(request, 1);
-    if 1024 < room {
-        return 0;
-    }
-    let at = 5 + 24 * room;
-    if request.len() != at + 16 {
-        return 0;
-    }
+pub(crate) fn lookup(mut from: Reader, out: &mut [u8]) -> Option<usize> {
+    let (entries, room) = indexes::index(&mut from)?;
+    let count = from.number::<u64>()? as usize;
+    let number = from.number()?;
+    framed::end(from)?;
     if out.len() < 38 + 24 * room {
-        return 0;
+        return None;
     }
-    lookup_in(request, room, at, out)
+    let mut to = framed::begin(out, 0, 0);
+    put_found(&mut to, held::lookup(entries, room, count, number));
+    indexes::put_index(&mut to, entries, room);
+    Some(to.at)
 }

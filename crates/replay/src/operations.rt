@@ -2,7 +2,7 @@
 // or nothing for a request that isn't one.
 use crate::records;
 use fields::{Cursor, Reader, Writer};
-use prefix::{FreshNext, Header, HeaderRead, Newest, PrefixWritten, Slot, SlotRead};
+use prefix::{Header, Slot};
 
 pub fn respond(request: &[u8], out: &mut [u8]) -> Option<usize> {
     let mut from = Reader::new(request);
@@ -33,7 +33,7 @@ fn crc(mut from: Reader, out: &mut [u8]) -> Option<usize> {
 
 fn header(from: Reader, out: &mut [u8]) -> Option<usize> {
     match prefix::decode_header(framed::last_run(from)?) {
-        HeaderRead::Sound(h) => {
+        Ok(h) => {
             let mut to = framed::begin(out, 0, 0);
             to.put_number(h.seconds);
             to.put_number(h.nanoseconds);
@@ -41,8 +41,8 @@ fn header(from: Reader, out: &mut [u8]) -> Option<usize> {
             to.put_number(h.target);
             Some(to.at)
         }
-        HeaderRead::Refused { number, place } => {
-            let mut to = framed::begin(out, number, place);
+        Err(refusal) => {
+            let mut to = framed::begin(out, refusal.reason.number(), refusal.place);
             to.put(&[0; 28]);
             Some(to.at)
         }
@@ -53,11 +53,11 @@ fn slot(from: Reader, out: &mut [u8]) -> Option<usize> {
     let image = framed::last_run(from)?;
     let mut to = framed::begin(out, 0, 0);
     match prefix::decode_slot(image) {
-        SlotRead::Sound(s) => {
+        Some(s) => {
             to.put_number(1u8);
             framed::put_slot(&mut to, s);
         }
-        SlotRead::Unsound => to.put(&[0; 42]),
+        None => to.put(&[0; 42]),
     }
     Some(to.at)
 }
@@ -65,19 +65,19 @@ fn slot(from: Reader, out: &mut [u8]) -> Option<usize> {
 fn newest(mut from: Reader, out: &mut [u8]) -> Option<usize> {
     let zero = framed::run(&mut from)?;
     let one = framed::last_run(from)?;
-    let choice = prefix::find_newest(zero, one);
-    let mut to = framed::begin(
-        out,
-        prefix::newest_number(choice),
-        prefix::newest_place(choice),
-    );
-    match choice {
-        Newest::Zero(s) | Newest::One(s) => {
-            to.put_number(prefix::newest_position(choice));
-            framed::put_slot(&mut to, s);
+    let mut to = match prefix::find_newest(zero, one) {
+        Ok(newest) => {
+            let mut to = framed::begin(out, 0, 0);
+            to.put_number(newest.position as u8);
+            framed::put_slot(&mut to, newest.slot);
+            to
         }
-        Newest::NoneSound | Newest::Differ => to.put(&[0; 42]),
-    }
+        Err(refusal) => {
+            let mut to = framed::begin(out, refusal.reason.number(), refusal.place);
+            to.put(&[0; 42]);
+            to
+        }
+    };
     framed::put_run(&mut to, prefix::newest_slot(zero, one));
     Some(to.at)
 }
@@ -93,8 +93,8 @@ fn slots(mut from: Reader, out: &mut [u8]) -> Option<usize> {
     };
     framed::end(from)?;
     let (number, place, next) = match prefix::fresh_next(slot.generation) {
-        FreshNext::Next(next) => (0, 0, next),
-        FreshNext::Exhausted { number, place } => (number, place, 0),
+        Ok(next) => (0, 0, next),
+        Err(refusal) => (refusal.reason.number(), refusal.place, 0),
     };
     let images = prefix::fresh_slots(slot);
     let mut to = framed::begin(out, number, place);
@@ -123,9 +123,9 @@ fn prefix(mut from: Reader, out: &mut [u8]) -> Option<usize> {
     let lent = framed::last_run(from)?;
     let end = fields::put_run(out, Cursor { at: 21 }, lent);
     match prefix::encode_prefix(out.get_mut(21..end.at)?, header, images) {
-        PrefixWritten::Written(length) => put_written(out, 0, 0, length, lent.len()),
-        PrefixWritten::NotWritten { number, place } => {
-            put_written(out, number, place, 0, lent.len())
+        Ok(length) => put_written(out, 0, 0, length, lent.len()),
+        Err(refusal) => {
+            put_written(out, refusal.reason.number(), refusal.place, 0, lent.len())
         }
     }
     Some(end.at)

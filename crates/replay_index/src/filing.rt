@@ -1,7 +1,7 @@
 // Operations 16, insert, and 17, lookup.
 use crate::indexes;
 use fields::{Reader, Writer};
-use index::{Entry, Filed, Found};
+use index::Entry;
 
 // Operation 16: the index, count, dead bytes and an entry; that entry is filed.
 pub(crate) fn insert(mut from: Reader, out: &mut [u8]) -> Option<usize> {
@@ -14,23 +14,22 @@ pub(crate) fn insert(mut from: Reader, out: &mut [u8]) -> Option<usize> {
         return None;
     }
     let inserted = held::insert(entries, room, count, dead, entry);
-    let filed = inserted.filed;
-    let mut to = framed::begin(out, filed.number, 0);
+    let number = match inserted.filed {
+        Ok(_) => 0,
+        Err(reason) => reason.number(),
+    };
+    let filed = inserted.filed.unwrap_or_default();
+    let mut to = framed::begin(out, number, 0);
     to.put_number(filed.count as u64);
     to.put_number(filed.dead);
     indexes::put_index(&mut to, inserted.entries, room);
     Some(to.at)
 }
 
-// Whether an entry was found, and the entry, zeros where none was.
-fn put_found(to: &mut Writer, found: Found) {
-    match found {
-        Found::At(entry) => {
-            to.put_number(1u8);
-            indexes::put_entry(to, entry);
-        }
-        Found::Nothing => to.put(&[0; 25]),
-    }
+// Whether an entry was found, 1 or 0, and the entry, zeros where none was.
+fn put_found(to: &mut Writer, found: Option<Entry>) {
+    to.put_number(u8::from(found.is_some()));
+    indexes::put_entry(to, found.unwrap_or_default());
 }
 
 // Operation 17: the index, count and a message number; its entry is looked up.

@@ -17,11 +17,7 @@ pub(crate) fn index(from: &mut Reader) -> Option<([Entry; 1024], usize)>
     ensures { IfSome result (λ p. p.1 ≤ 1024) }
 {
     let room = from.number::<u32>()? as usize;
-    let mut entries = [Entry {
-        number: 0,
-        offset: 0,
-        body: 0,
-    }; 1024];
+    let mut entries = [Entry::default(); 1024];
     for place in entries.get_mut(..room)? {
         *place = entry(from)?;
     }

@@ -33,11 +33,7 @@ impl<'a> Printer<'a> {
     fn put_scan(&mut self, request: Request)
         ensures { Prints (scan_text (scan_of request.entry.limit request.entry.rule 1024 request.entry.journal.now) (index_after request.entry.limit (replicate 1024 none) request.entry.journal.now)) self.old self.new }
     {
-        let entries = [Entry {
-            number: 0,
-            offset: 0,
-            body: 0,
-        }; 1024];
+        let entries = [Entry::default(); 1024];
         let scanned = held::scan(request.journal, request.rule, request.limit, entries, 1024);
         let found = scanned.scan;
         let filed = scanned.entries;

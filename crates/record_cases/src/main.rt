@@ -5,7 +5,8 @@
 #![tactic(auto)]
 
 use fields::Cursor;
-use record::{Kind, MsgType, Record, RecordSealed, RecordWritten, Row, Seen};
+use record::{Kind, MsgType, Record, Row};
+use refusals::Refusal;
 use std::io;
 
 fn text(rt: &impl Print, s: &[u8]) -> io::Result<()> {
@@ -17,21 +18,15 @@ fn number(rt: &impl Print, x: u64) -> io::Result<()> {
 }
 
 fn bytes(rt: &impl Print, s: &[u8]) -> io::Result<()> {
-    let mut i = 0;
     text(rt, b" ")?;
-    while i < s.len() {
-        let b = s[i];
+    for b in s {
         print!(rt; "{b:02x}")?;
-        i += 1;
     }
     Ok(())
 }
 
-fn refused(rt: &impl Print, x: u8, place: u64) -> io::Result<()> {
-    text(rt, b" refused")?;
-    number(rt, x as u64)?;
-    text(rt, b" at")?;
-    number(rt, place)
+fn refused(rt: &impl Print, refusal: Refusal) -> io::Result<()> {
+    print!(rt; " {refusal}")
 }
 
 // The code `D`, `D2345678`, or `D2345678` with a length that no code has.
@@ -64,11 +59,11 @@ fn write(
     number(rt, limit)?;
     number(rt, out.len() as u64)?;
     match record::encode_frame_record(out, kind, 2, c, frame, limit) {
-        RecordWritten::Written(n) => {
+        Ok(n) => {
             text(rt, b" written")?;
             number(rt, n as u64)?;
         }
-        RecordWritten::NotWritten { number: x, place } => refused(rt, x, place)?,
+        Err(refusal) => refused(rt, refusal)?,
     }
     bytes(rt, out)?;
     text(rt, b"\n")
@@ -121,8 +116,8 @@ fn seal(rt: &impl Print, out: &mut [u8]) -> io::Result<()> {
     text(rt, b"seal")?;
     bytes(rt, out)?;
     match record::seal_frame_record(out, 7) {
-        RecordSealed::Sealed => text(rt, b" sealed")?,
-        RecordSealed::NotSealed { number: x, place } => refused(rt, x, place)?,
+        Ok(()) => text(rt, b" sealed")?,
+        Err(refusal) => refused(rt, refusal)?,
     }
     bytes(rt, out)?;
     text(rt, b"\n")
@@ -147,10 +142,8 @@ fn found(rt: &impl Print, r: Record) -> io::Result<()> {
     number(rt, r.number)?;
     number(rt, r.generation)?;
     number(rt, r.sender)?;
-    let c = record::code_of(r);
-    let letters = c.bytes;
-    bytes(rt, &letters)?;
-    number(rt, c.len as u64)?;
+    bytes(rt, &r.code.bytes)?;
+    number(rt, r.code.len as u64)?;
     number(rt, r.frame)
 }
 
@@ -171,8 +164,8 @@ fn look(rt: &impl Print, s: &[u8], at: usize, limit: u64) -> io::Result<()> {
     number(rt, limit)?;
     bytes(rt, s)?;
     match record::seen_at(s, at, limit) {
-        Seen::Sound(r) => found(rt, r)?,
-        Seen::Fault(r) => row(rt, r)?,
+        Ok(r) => found(rt, r)?,
+        Err(fault) => row(rt, fault)?,
     }
     text(rt, b"\n")
 }
@@ -181,8 +174,8 @@ fn look(rt: &impl Print, s: &[u8], at: usize, limit: u64) -> io::Result<()> {
 fn filed() -> [u8; 43] {
     let mut w = [0u8; 43];
     let kind = Kind::Counter { sender: 9 };
-    record::encode_frame_record(&mut w, kind, 2, code(1), b"8=FI", 4);
-    record::seal_frame_record(&mut w, 7);
+    let _ = record::encode_frame_record(&mut w, kind, 2, code(1), b"8=FI", 4);
+    let _ = record::seal_frame_record(&mut w, 7);
     w
 }
 
@@ -235,7 +228,7 @@ fn unread(rt: &impl Print) -> io::Result<()> {
     look_placed(rt, none)?;
     let mut kind = filed();
     kind[12] = 4;
-    record::seal_frame_record(&mut kind, 7);
+    let _ = record::seal_frame_record(&mut kind, 7);
     look_placed(rt, kind)
 }
 

@@ -1,6 +1,6 @@
 -- What a host hands in for writing, as the layers below take it, and what it gets.
 -- Assumes nothing.
-use Rattle.std.specs.Prelude.{ℕ, Bool, ◌||◌, List, [], ◌∷◌, leb, ltb, eqb, get_or, replicate, Result, Ok, Err}
+use Rattle.std.specs.Prelude.{ℕ, Bool, ◌||◌, List, [], ◌∷◌, leb, ltb, eqb, get_or, replicate, Result, Ok, Err, ⊤}
 use Rattle.fields.specs.Fields.{max32, pick}
 use Rattle.prefix.specs.Slots.{slot_bytes, fresh_next, fresh_slots}
 use Rattle.refusals.specs.Refusals.{number_in}
@@ -12,10 +12,6 @@ use Rattle.record.specs.Write.{write_answer, write_out}
 use Rattle.record.specs.declared.Kind.{Kind}
 use Rattle.record.specs.declared.Kind.TheVariants.{Plain, Counter}
 use Rattle.record.specs.declared.MsgType.{MsgType}
-use Rattle.record.specs.declared.RecordSealed.{RecordSealed}
-use Rattle.record.specs.declared.RecordSealed.TheVariants.{Sealed, NotSealed}
-use Rattle.record.specs.declared.RecordWritten.{RecordWritten}
-use Rattle.record.specs.declared.RecordWritten.TheVariants.{Written, NotWritten}
 use Rattle.refusals.specs.declared.Reason.{Reason}
 use Rattle.refusals.specs.declared.Reason.TheVariants.{Unknown}
 use Rattle.refusals.specs.Refusals.{number_in}
@@ -48,9 +44,9 @@ code_by c = record { bytes = c.bytes; len = letters_by c.letters }
 abbrev pub refused_write : (number place : ℕ) → Wrote
 refused_write number place = record { number = number; place = place; length = 0 }
 
-abbrev pub record_wrote : RecordWritten → Wrote
-record_wrote (Written n) = record { number = 0; place = 0; length = n }
-record_wrote (NotWritten number place) = refused_write number place
+abbrev pub record_wrote : Result ℕ Refusal → Wrote
+record_wrote (Ok n) = record { number = 0; place = 0; length = n }
+record_wrote (Err e) = refused_write (number_in e.reason) e.place
 
 -- a reason alone: its number, and zeros
 abbrev pub wrote_for : Reason → Wrote
@@ -66,9 +62,9 @@ host_write out kind sender number code frame limit =
     pick (is_record_kind kind) (write_out out (kind_by kind sender) number (code_by code) frame limit) out
 
 -- what sealing answers
-abbrev pub sealed_as : RecordSealed → seals.Sealed
-sealed_as Sealed = record { number = 0; place = 0 }
-sealed_as (NotSealed number place) = record { number = number; place = place }
+abbrev pub sealed_as : Result ⊤ Refusal → seals.Sealed
+sealed_as (Ok _) = record { number = 0; place = 0 }
+sealed_as (Err e) = record { number = number_in e.reason; place = e.place }
 
 -- ---- the prefix
 

@@ -4,7 +4,6 @@ ghost use Rattle.host.specs.Host.{found_for};
 ghost use Rattle.host.specs.Writing.{refused_write, record_wrote, prefix_wrote, sealed_as, fresh_of, wrote_for, fresh_for, image_for};
 
 use crate::{Found, Fresh, Image, Sealed, Slots, Wrote};
-use record::{RecordSealed, RecordWritten};
 use refusals::{Reason, Refusal};
 
 fn refused_write(number: u64, place: u64) -> Wrote
@@ -17,16 +16,16 @@ fn refused_write(number: u64, place: u64) -> Wrote
     }
 }
 
-pub(crate) fn record_wrote(answer: RecordWritten) -> Wrote
+pub(crate) fn record_wrote(answer: Result<usize, Refusal>) -> Wrote
     ensures { result ≡ record_wrote answer }
 {
     match answer {
-        RecordWritten::Written(length) => Wrote {
+        Ok(length) => Wrote {
             number: 0,
             place: 0,
             length: length as u64,
         },
-        RecordWritten::NotWritten { number, place } => refused_write(number as u64, place),
+        Err(refusal) => refused_write(refusal.reason.number() as u64, refusal.place),
     }
 }
 
@@ -43,17 +42,17 @@ pub(crate) fn prefix_wrote(answer: Result<usize, Refusal>) -> Wrote
     }
 }
 
-pub(crate) fn sealed_as(answer: RecordSealed) -> Sealed
+pub(crate) fn sealed_as(answer: Result<(), Refusal>) -> Sealed
     ensures { result ≡ sealed_as answer }
 {
     match answer {
-        RecordSealed::Sealed => Sealed {
+        Ok(()) => Sealed {
             number: 0,
             place: 0,
         },
-        RecordSealed::NotSealed { number, place } => Sealed {
-            number: number as u64,
-            place,
+        Err(refusal) => Sealed {
+            number: refusal.reason.number() as u64,
+            place: refusal.place,
         },
     }
 }

@@ -1,7 +1,7 @@
 // The operations on records.
 use crate::operations::put_written;
 use fields::{Cursor, Reader, Writer};
-use record::{Body, Kind, Record, RecordSealed, RecordWritten, Row, Seen};
+use record::{Body, Kind, Record, Row};
 
 // The kind that a request names, and the sender, which only a counter has.
 fn kind(from: &mut Reader) -> Option<Kind> {
@@ -25,9 +25,9 @@ pub fn record(mut from: Reader, out: &mut [u8]) -> Option<usize> {
     let end = fields::put_run(out, Cursor { at: 21 }, lent);
     let to = out.get_mut(21..end.at)?;
     match record::encode_frame_record(to, kind, number, code, frame, limit) {
-        RecordWritten::Written(length) => put_written(out, 0, 0, length, lent.len()),
-        RecordWritten::NotWritten { number, place } => {
-            put_written(out, number, place, 0, lent.len())
+        Ok(length) => put_written(out, 0, 0, length, lent.len()),
+        Err(refusal) => {
+            put_written(out, refusal.reason.number(), refusal.place, 0, lent.len())
         }
     }
     Some(end.at)
@@ -39,8 +39,8 @@ pub fn seal(mut from: Reader, out: &mut [u8]) -> Option<usize> {
     let lent = framed::last_run(from)?;
     let end = fields::put_run(out, Cursor { at: 13 }, lent);
     let (number, place) = match record::seal_frame_record(out.get_mut(13..end.at)?, generation) {
-        RecordSealed::Sealed => (0, 0),
-        RecordSealed::NotSealed { number, place } => (number, place),
+        Ok(()) => (0, 0),
+        Err(refusal) => (refusal.reason.number(), refusal.place),
     };
     let mut to = framed::begin(out, number, place);
     framed::put_length(&mut to, lent.len());
@@ -48,8 +48,8 @@ pub fn seal(mut from: Reader, out: &mut [u8]) -> Option<usize> {
 }
 
 fn put_body(to: &mut Writer, body: Body) {
-    to.put_number(u8::from(body.reads));
-    to.put_number(body.kind);
+    to.put_number(1u8);
+    to.put_number(body.kind as u8);
     framed::put_counters(to, body.number, body.generation, body.sender);
     framed::put_code(to, body.code);
     to.put_number(body.frame as u64);
@@ -58,16 +58,19 @@ fn put_body(to: &mut Writer, body: Body) {
 pub fn body(from: Reader, out: &mut [u8]) -> Option<usize> {
     let bytes = framed::last_run(from)?;
     let mut to = framed::begin(out, 0, 0);
-    put_body(&mut to, record::decode_body(bytes));
+    match record::decode_body(bytes) {
+        Some(body) => put_body(&mut to, body),
+        None => to.put(&[0; 43]),
+    }
     Some(to.at)
 }
 
 fn put_record(to: &mut Writer, r: Record) {
     to.put_number(r.place);
     to.put_number(r.body);
-    to.put_number(r.kind);
+    to.put_number(r.kind as u8);
     framed::put_counters(to, r.number, r.generation, r.sender);
-    framed::put_code(to, record::code_of(r));
+    framed::put_code(to, r.code);
     to.put_number(r.frame);
 }
 
@@ -88,11 +91,11 @@ pub fn seen(mut from: Reader, out: &mut [u8]) -> Option<usize> {
     let bytes = framed::last_run(from)?;
     let mut to = framed::begin(out, 0, 0);
     match record::seen_at(bytes, at, limit) {
-        Seen::Sound(r) => {
+        Ok(r) => {
             to.put_number(0u8);
             put_record(&mut to, r);
         }
-        Seen::Fault(row) => {
+        Err(row) => {
             to.put_number(row_number(row));
             to.put(&[0; 58]);
         }

@@ -1,14 +1,10 @@
-// One function an operation: takes the request apart, calls the port, and writes all that it left. The result is the answer's length,
-// or 0 for a request that isn't one.
+// One function an operation: takes the request apart, calls the port, and writes all that it left. The result is the answer's length;
+// none for a request that isn't one.
 use crate::records;
 use fields::Cursor;
 use prefix::{FreshNext, Header, HeaderRead, Newest, PrefixWritten, Slot, SlotRead};
 
-pub fn length_of(head: [u8; 4]) -> usize {
-    framed::u32_at(&head, 0) as usize
-}
-
-pub fn respond(request: &[u8], out: &mut [u8]) -> usize {
+pub fn respond(request: &[u8], out: &mut [u8]) -> Option<usize> {
     let op = framed::u8_at(request, 0);
     match op {
         1 => crc(request, out),
@@ -23,15 +19,15 @@ pub fn respond(request: &[u8], out: &mut [u8]) -> usize {
         10 => records::seen(request, out),
         11 | 12 | 16 | 17 => replay_index::respond(request, out),
         13 | 14 | 15 => replay_read::respond(request, out),
-        _ => 0,
+        _ => None,
     }
 }
 
-fn crc(request: &[u8], out: &mut [u8]) -> usize {
+fn crc(request: &[u8], out: &mut [u8]) -> Option<usize> {
     let first = framed::run(request, Cursor { at: 1 });
     let more = framed::run(request, first.next);
     if !framed::last(request, more) {
-        return 0;
+        return None;
     }
     let sum = crc32::crc32(fields::run(request, first.start, first.len));
     let c = framed::begin(out, 0, 0);
@@ -40,13 +36,13 @@ fn crc(request: &[u8], out: &mut [u8]) -> usize {
         c,
         crc32::resume(sum, fields::run(request, more.start, more.len)),
     );
-    end.at
+    Some(end.at)
 }
 
-fn header(request: &[u8], out: &mut [u8]) -> usize {
+fn header(request: &[u8], out: &mut [u8]) -> Option<usize> {
     let bytes = framed::run(request, Cursor { at: 1 });
     if !framed::last(request, bytes) {
-        return 0;
+        return None;
     }
     match prefix::decode_header(fields::run(request, bytes.start, bytes.len)) {
         HeaderRead::Sound(h) => {
@@ -55,31 +51,31 @@ fn header(request: &[u8], out: &mut [u8]) -> usize {
             let c2 = fields::put_u32(out, c1, h.nanoseconds);
             let c3 = fields::put_u64(out, c2, h.sender);
             let end = fields::put_u64(out, c3, h.target);
-            end.at
+            Some(end.at)
         }
         HeaderRead::Refused { number, place } => {
             let c = framed::begin(out, number, place);
             let end = fields::put_run(out, c, &[0; 28]);
-            end.at
+            Some(end.at)
         }
     }
 }
 
-fn slot(request: &[u8], out: &mut [u8]) -> usize {
+fn slot(request: &[u8], out: &mut [u8]) -> Option<usize> {
     let bytes = framed::run(request, Cursor { at: 1 });
     if !framed::last(request, bytes) {
-        return 0;
+        return None;
     }
     let c = framed::begin(out, 0, 0);
     match prefix::decode_slot(fields::run(request, bytes.start, bytes.len)) {
         SlotRead::Sound(s) => {
             let c1 = fields::put_u8(out, c, 1);
             let end = framed::put_slot(out, c1, s);
-            end.at
+            Some(end.at)
         }
         SlotRead::Unsound => {
             let end = fields::put_run(out, c, &[0; 42]);
-            end.at
+            Some(end.at)
         }
     }
 }
@@ -107,21 +103,21 @@ fn not_chosen(out: &mut [u8], choice: Newest, image: &[u8]) -> usize {
     end.at
 }
 
-fn newest(request: &[u8], out: &mut [u8]) -> usize {
+fn newest(request: &[u8], out: &mut [u8]) -> Option<usize> {
     let a = framed::run(request, Cursor { at: 1 });
     let b = framed::run(request, a.next);
     if !framed::last(request, b) {
-        return 0;
+        return None;
     }
     let zero = fields::run(request, a.start, a.len);
     let one = fields::run(request, b.start, b.len);
     let image = prefix::newest_slot(zero, one);
     let choice = prefix::find_newest(zero, one);
     match choice {
-        Newest::Zero(s) => chosen(out, choice, s, image),
-        Newest::One(s) => chosen(out, choice, s, image),
-        Newest::NoneSound => not_chosen(out, choice, image),
-        Newest::Differ => not_chosen(out, choice, image),
+        Newest::Zero(s) => Some(chosen(out, choice, s, image)),
+        Newest::One(s) => Some(chosen(out, choice, s, image)),
+        Newest::NoneSound => Some(not_chosen(out, choice, image)),
+        Newest::Differ => Some(not_chosen(out, choice, image)),
     }
 }
 
@@ -131,9 +127,9 @@ fn put_images(out: &mut [u8], c: Cursor, images: [[u8; 52]; 2]) -> usize {
     end.at
 }
 
-fn slots(request: &[u8], out: &mut [u8]) -> usize {
+fn slots(request: &[u8], out: &mut [u8]) -> Option<usize> {
     if request.len() != 42 {
-        return 0;
+        return None;
     }
     let slot = Slot {
         generation: framed::u64_at(request, 1),
@@ -148,12 +144,12 @@ fn slots(request: &[u8], out: &mut [u8]) -> usize {
         FreshNext::Next(next) => {
             let c = framed::begin(out, 0, 0);
             let c1 = fields::put_u64(out, c, next);
-            put_images(out, c1, images)
+            Some(put_images(out, c1, images))
         }
         FreshNext::Exhausted { number, place } => {
             let c = framed::begin(out, number, place);
             let c1 = fields::put_u64(out, c, 0);
-            put_images(out, c1, images)
+            Some(put_images(out, c1, images))
         }
     }
 }
@@ -170,10 +166,10 @@ fn write_prefix(out: &mut [u8], n: usize, h: Header, images: [[u8; 52]; 2]) -> P
     prefix::encode_prefix(&mut out[21..end], h, images)
 }
 
-fn prefix(request: &[u8], out: &mut [u8]) -> usize {
+fn prefix(request: &[u8], out: &mut [u8]) -> Option<usize> {
     let lent = framed::run(request, Cursor { at: 133 });
     if !framed::last(request, lent) {
-        return 0;
+        return None;
     }
     let h = Header {
         seconds: framed::u64_at(request, 1),
@@ -199,5 +195,5 @@ fn prefix(request: &[u8], out: &mut [u8]) -> usize {
             fields::put_u32(out, c1, (lent.len % 4294967296) as u32);
         }
     }
-    end.at
+    Some(end.at)
 }

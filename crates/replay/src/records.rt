@@ -40,11 +40,11 @@ fn head(out: &mut [u8], number: u8, place: u64, length: u64, lent: usize) {
     fields::put_u32(out, c1, (lent % 4294967296) as u32);
 }
 
-pub fn record(request: &[u8], out: &mut [u8]) -> usize {
+pub fn record(request: &[u8], out: &mut [u8]) -> Option<usize> {
     let frame = framed::run(request, Cursor { at: 35 });
     let lent = framed::run(request, frame.next);
     if !framed::last(request, lent) {
-        return 0;
+        return None;
     }
     let end = fields::put_run(
         out,
@@ -60,7 +60,7 @@ pub fn record(request: &[u8], out: &mut [u8]) -> usize {
         RecordWritten::Written(length) => head(out, 0, 0, length as u64, lent.len),
         RecordWritten::NotWritten { number, place } => head(out, number, place, 0, lent.len),
     }
-    end.at
+    Some(end.at)
 }
 
 // The record's bytes stand behind the answer's head, 13 bytes, and are sealed there.
@@ -75,10 +75,10 @@ fn seal_in(out: &mut [u8], n: usize, generation: u64) -> RecordSealed {
     record::seal_frame_record(&mut out[13..end], generation)
 }
 
-pub fn seal(request: &[u8], out: &mut [u8]) -> usize {
+pub fn seal(request: &[u8], out: &mut [u8]) -> Option<usize> {
     let lent = framed::run(request, Cursor { at: 9 });
     if !framed::last(request, lent) {
-        return 0;
+        return None;
     }
     let end = fields::put_run(
         out,
@@ -95,7 +95,7 @@ pub fn seal(request: &[u8], out: &mut [u8]) -> usize {
             fields::put_u32(out, c, (lent.len % 4294967296) as u32);
         }
     }
-    end.at
+    Some(end.at)
 }
 
 fn put_body(out: &mut [u8], c: Cursor, body: Body) -> Cursor {
@@ -108,15 +108,15 @@ fn put_body(out: &mut [u8], c: Cursor, body: Body) -> Cursor {
     fields::put_u64(out, c4, body.frame as u64)
 }
 
-pub fn body(request: &[u8], out: &mut [u8]) -> usize {
+pub fn body(request: &[u8], out: &mut [u8]) -> Option<usize> {
     let bytes = framed::run(request, Cursor { at: 1 });
     if !framed::last(request, bytes) {
-        return 0;
+        return None;
     }
     let body = record::decode_body(fields::run(request, bytes.start, bytes.len));
     let c = framed::begin(out, 0, 0);
     let end = put_body(out, c, body);
-    end.at
+    Some(end.at)
 }
 
 fn put_record(out: &mut [u8], c: Cursor, r: Record) -> Cursor {
@@ -139,10 +139,10 @@ fn row_number(row: Row) -> u8 {
     }
 }
 
-pub fn seen(request: &[u8], out: &mut [u8]) -> usize {
+pub fn seen(request: &[u8], out: &mut [u8]) -> Option<usize> {
     let bytes = framed::run(request, Cursor { at: 17 });
     if !framed::last(request, bytes) {
-        return 0;
+        return None;
     }
     let limit = framed::u64_at(request, 1);
     let at = framed::u64_at(request, 9) as usize;
@@ -151,12 +151,12 @@ pub fn seen(request: &[u8], out: &mut [u8]) -> usize {
         Seen::Sound(r) => {
             let c1 = fields::put_u8(out, c, 0);
             let end = put_record(out, c1, r);
-            end.at
+            Some(end.at)
         }
         Seen::Fault(row) => {
             let c1 = fields::put_u8(out, c, row_number(row));
             let end = fields::put_run(out, c1, &[0; 58]);
-            end.at
+            Some(end.at)
         }
     }
 }

@@ -31,19 +31,19 @@ fn insert_in(request: &[u8], room: usize, at: usize, out: &mut [u8]) -> usize
 }
 
 // Operation 16: the index, count, dead bytes and an entry; that entry is filed.
-pub(crate) fn insert(request: &[u8], out: &mut [u8]) -> usize {
+pub(crate) fn insert(request: &[u8], out: &mut [u8]) -> Option<usize> {
     let room = indexes::room_at(request, 1);
     if 1024 < room {
-        return 0;
+        return None;
     }
     let at = 5 + 24 * room;
     if request.len() != at + 40 {
-        return 0;
+        return None;
     }
     if out.len() < 29 + 24 * room {
-        return 0;
+        return None;
     }
-    insert_in(request, room, at, out)
+    Some(insert_in(request, room, at, out))
 }
 
 // What was found as an entry, zeros where nothing was.
@@ -86,17 +86,17 @@ fn lookup_in(request: &[u8], room: usize, at: usize, out: &mut [u8]) -> usize
 }
 
 // Operation 17: the index, count and a message number; its entry is looked up.
-pub(crate) fn lookup(request: &[u8], out: &mut [u8]) -> usize {
+pub(crate) fn lookup(request: &[u8], out: &mut [u8]) -> Option<usize> {
     let room = indexes::room_at(request, 1);
     if 1024 < room {
-        return 0;
+        return None;
     }
     let at = 5 + 24 * room;
     if request.len() != at + 16 {
-        return 0;
+        return None;
     }
     if out.len() < 38 + 24 * room {
-        return 0;
+        return None;
     }
-    lookup_in(request, room, at, out)
+    Some(lookup_in(request, room, at, out))
 }

@@ -94,56 +94,56 @@ fn scan_in(request: &[u8], room: usize, journal: &[u8], out: &mut [u8]) -> usize
 }
 
 // Operation 11: a rule, the index and a journal, which is scanned.
-pub(crate) fn scan(request: &[u8], out: &mut [u8]) -> usize {
+pub(crate) fn scan(request: &[u8], out: &mut [u8]) -> Option<usize> {
     let kind = framed::u8_at(request, 1);
     if kind == 0 {
-        return 0;
+        return None;
     }
     if 3 < kind {
-        return 0;
+        return None;
     }
     let room = indexes::room_at(request, 18);
     if 1024 < room {
-        return 0;
+        return None;
     }
     let journal = framed::run(request, Cursor { at: 22 + 24 * room });
     if !framed::last(request, journal) {
-        return 0;
+        return None;
     }
     if out.len() < 221 + 24 * room {
-        return 0;
+        return None;
     }
-    scan_in(
+    Some(scan_in(
         request,
         room,
         fields::run(request, journal.start, journal.len),
         out,
-    )
+    ))
 }
 
 // The answer to a re-read of an entry, by the number that is asked for.
-fn reread_in(journal: &[u8], entry: Entry, number: u64, out: &mut [u8]) -> usize {
+fn reread_in(journal: &[u8], entry: Entry, number: u64, out: &mut [u8]) -> Option<usize> {
     let read = journal::reread(journal, entry, number);
     let frame = journal::frame_of(journal, read);
     if out.len() < 30 {
-        return 0;
+        return None;
     }
     if out.len() - 30 < frame.len() {
-        return 0;
+        return None;
     }
     let code = read.code;
     let c = framed::begin(out, read.number, read.place);
     let c1 = framed::put_code(out, c, code);
     let c2 = fields::put_u64(out, c1, read.frame);
     let end = framed::put_run(out, c2, frame);
-    end.at
+    Some(end.at)
 }
 
 // Operation 12: an entry, a message number and a journal, from which the message is read again.
-pub(crate) fn reread(request: &[u8], out: &mut [u8]) -> usize {
+pub(crate) fn reread(request: &[u8], out: &mut [u8]) -> Option<usize> {
     let journal = framed::run(request, Cursor { at: 33 });
     if !framed::last(request, journal) {
-        return 0;
+        return None;
     }
     reread_in(
         fields::run(request, journal.start, journal.len),

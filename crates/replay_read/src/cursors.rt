@@ -87,14 +87,14 @@ fn put_taken(out: &mut [u8], read: Taken) -> Cursor {
     fields::put_u64(out, c2, next.at as u64)
 }
 
-pub(crate) fn take(request: &[u8], out: &mut [u8]) -> usize {
+pub(crate) fn take(request: &[u8], out: &mut [u8]) -> Option<usize> {
     let width = framed::u8_at(request, 1);
     if !is_width(width) {
-        return 0;
+        return None;
     }
     let bytes = framed::run(request, Cursor { at: 18 });
     if !framed::last(request, bytes) {
-        return 0;
+        return None;
     }
     let s = fields::run(request, bytes.start, bytes.len);
     let c = Cursor {
@@ -104,7 +104,7 @@ pub(crate) fn take(request: &[u8], out: &mut [u8]) -> usize {
     let c1 = put_taken(out, read(s, width, c, n));
     let run = if width == 0 { n } else { 0 };
     let end = framed::put_run(out, c1, fields::run(s, c, run));
-    end.at
+    Some(end.at)
 }
 
 fn write(out: &mut [u8], width: u8, c: Cursor, value: u64, what: &[u8]) -> Cursor {
@@ -136,15 +136,15 @@ fn put_head(out: &mut [u8], next: Cursor, n: usize) {
     fields::put_u32(out, c1, (n % 4294967296) as u32);
 }
 
-pub(crate) fn put(request: &[u8], out: &mut [u8]) -> usize {
+pub(crate) fn put(request: &[u8], out: &mut [u8]) -> Option<usize> {
     let width = framed::u8_at(request, 1);
     if !is_width(width) {
-        return 0;
+        return None;
     }
     let what = framed::run(request, Cursor { at: 18 });
     let lent = framed::run(request, what.next);
     if !framed::last(request, lent) {
-        return 0;
+        return None;
     }
     let buffer = fields::run(request, lent.start, lent.len);
     let end = fields::put_run(out, Cursor { at: 21 }, buffer);
@@ -154,5 +154,5 @@ pub(crate) fn put(request: &[u8], out: &mut [u8]) -> usize {
     let bytes = fields::run(request, what.start, what.len);
     let next = write_in(out, lent.len, width, c, framed::u64_at(request, 10), bytes);
     put_head(out, next, lent.len);
-    end.at
+    Some(end.at)
 }

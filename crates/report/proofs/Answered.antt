@@ -1,24 +1,24 @@
 -- What a request's report is, by its own refusal, and by what the scan of its journal comes to.
 -- Assumes nothing.
-use mathlib.Core.Path.{◌≡◌, sym, ap, ◌∙◌}
+use mathlib.Core.Path.{◌≡◌, sym, ap, ap₂, ◌∙◌}
 use mathlib.Core.List.{List, ◌++◌}
-use Prim.Native.Nat.{ℕ}
-use lib.ListN.{take, replicate, length-replicate}
-use lib.Dec.{lit≤}
+use Prim.Native.Nat.{ℕ, min}
+use lib.ListN.{length, take, replicate}
 use borrow.Author.Tests.{eq-eqb, ne_eqb}
+use Rattle.index.specs.declared.Entry.{Entry}
 use Rattle.index.specs.Insert.{none}
 use Rattle.journal.specs.declared.Rule.{Rule}
+use Rattle.journal.specs.declared.answers.Scan.{Scan}
 use Rattle.journal.specs.Scan.{scan_of, index_after}
-use Rattle.held.specs.declared.Scanned.{Scanned}
-use Rattle.held.specs.Held.{held_scan}
-use Rattle.held.proofs.Whole.{scan_whole}
 use Rattle.report.specs.Request.{rule_in, limit_in, journal_in, request_fault}
 use Rattle.report.specs.Report.{refused_line, first_line, entry_lines, scan_text, scanned_text, report_of}
+use Rattle.report.proofs.Listed.{lines_all}
 
--- the lines of what was found in an index of 1,024 entries
-pub scanned-text : (limit : ℕ) (rule : Rule) (s : List ℕ) (r : Scanned) → r ≡ held_scan limit rule 1024 s (replicate 1024 none) → scan_text (scan_of limit rule 1024 s) (index_after limit (replicate 1024 none) s) ≡ first_line r.scan.answer r.scan ++ entry_lines (take r.scan.count r.entries)
+-- what a scan found and left, as far as it counts entries
+pub scan_told : (x : Scan) (es : List Entry) (found : Scan) (left : List Entry) (k : ℕ) → found ≡ x → left ≡ es → length left ≡ 1024 → k ≡ min found.count 1024 → scan_text x es ≡ first_line found.answer found ++ entry_lines (take k left)
 unfolding scan_text
-scanned-text limit rule s r e = sym (ap (λ (x : Scanned). first_line x.scan.answer x.scan ++ entry_lines (take x.scan.count x.entries)) (e ∙ scan_whole limit rule 1024 s (replicate 1024 none) (rw length-replicate (lit≤ tt))))
+scan_told x es found left k e i size m =
+    sym (ap₂ scan_text e i) ∙ ap (λ (t : List ℕ). first_line found.answer found ++ t) (lines_all left found.count size ∙ ap (λ (n : ℕ). entry_lines (take n left)) (sym m))
 
 pub refused_report : (i : List ℕ) (n : ℕ) → n ≡ request_fault i → (request_fault i ≡ 0 → ⊥) → report_of i ≡ refused_line n 0
 unfolding report_of

@@ -21,7 +21,6 @@ ghost use Rattle.report.specs.Text.{over};
 
 use crate::requests::Request;
 use crate::words::Printer;
-use held::within;
 use index::Entry;
 
 mod lines;
@@ -33,12 +32,10 @@ impl<'a> Printer<'a> {
     fn put_scan(&mut self, request: Request)
         ensures { Prints (scan_text (scan_of request.entry.limit request.entry.rule 1024 request.entry.journal.now) (index_after request.entry.limit (replicate 1024 none) request.entry.journal.now)) self.old self.new }
     {
-        let entries = [Entry::default(); 1024];
-        let scanned = held::scan(request.journal, request.rule, request.limit, entries, 1024);
-        let found = scanned.scan;
-        let filed = scanned.entries;
+        let mut entries = [Entry::default(); 1024];
+        let found = journal::scan(request.journal, request.rule, request.limit, &mut entries);
         self.put_first(found);
-        self.put_entries(&filed[..within(found.count)]);
+        self.put_entries(&entries[..found.count.min(1024)]);
     }
 
     // The answer to a request: what its scan comes to, or why it is refused.

@@ -6,8 +6,8 @@ use mathlib.Core.List.{List}
 use Prim.Native.Nat.{ℕ, ◌+◌, ◌≤◌}
 use lib.ListN.{length}
 use borrow.Author.Tests.{le-leb, leb-true}
-use Rattle.fields.specs.Fields.{pick, le, fits, put}
-use Rattle.fields.specs.Cursors.{moved, taken, put_at, after}
+use Rattle.fields.specs.Fields.{pick, fits, put}
+use Rattle.fields.specs.Cursors.{moved, put_at, after}
 use Rattle.fields.specs.declared.Cursor.{Cursor}
 
 -- a test that is known picks
@@ -18,9 +18,6 @@ picked t a b e = rw e
 module _ (n : ℕ) (s : List ℕ) (c : Cursor) (h : c.at + n ≤ length s) where
   there : fits n s c.at ≡ true
   there = le-leb (c.at + n) (length s) h
-
-  pub takes : {A : Type 0} (value : ℕ → Cursor → A) (nothing : A) (x : ℕ) → x ≡ le n s c.at → value x (moved n c) ≡ taken n (value (le n s c.at)) nothing s c
-  takes value nothing x e = ap (λ (y : ℕ). value y (moved n c)) e ∙ picked (fits n s c.at) (value (le n s c.at) (moved n c)) nothing there
 
   pub goes_after : moved n c ≡ after n s c
   goes_after = picked (fits n s c.at) (moved n c) c there

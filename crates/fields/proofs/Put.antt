@@ -2,7 +2,7 @@
 -- Assumes nothing.
 use mathlib.Core.Path.{◌≡◌, refl, sym, ap, ap₂, ◌∙◌}
 use mathlib.Core.List.{List, [], ◌∷◌, ◌++◌, append_assoc, append-nil}
-use Prim.Native.Nat.{ℕ, zero, suc, ◌+◌, ◌*◌, ◌-◌, ◌/◌, ◌%◌, ◌^◌, ◌≤◌, ◌<◌}
+use Prim.Native.Nat.{ℕ, zero, suc, ◌+◌, ◌*◌, ◌-◌, ◌%◌, ◌^◌, ◌≤◌, ◌<◌}
 use native.Mathlib.Nat.{add-zero, add-suc, suc-add, zero-add, add_assoc}
 use native.Mathlib.Omega.{arith}
 use native.Mathlib.Nat.{mod-eq_of_lt}
@@ -11,16 +11,12 @@ use lib.ListN.{length, get_or, take, drop, set, length-append, drop_of_length-le
 use lib.Seq.{sets, sets-eq, length-sets, take_at, drop_at, take-take, take-add, take-append-le, drop-drop, length-take-le, get_or-take, get_or-drop, get_or-append-add}
 use Rattle.fields.specs.Fields.{le, le_bytes, part, put}
 use Rattle.fields.proofs.Back.{le-bytes}
-use Rattle.fields.proofs.Widths.{le_bytes-length, le_bytes-cut, le_bytes-add}
+use Rattle.fields.proofs.Widths.{le_bytes-length}
 
 -- stores one after the other put the bytes
 pub sets_put : (v s : List ℕ) (p : ℕ) → p + length v ≤ length s → sets s p v ≡ put v s p
 unfolding put
 sets_put v s p h = sets-eq v s p h
-
--- what stores one after the other leave
-pub stores_put : (l v s : List ℕ) (p : ℕ) → p + length v ≤ length s → l ≡ sets s p v → l ≡ put v s p
-stores_put l v s p h e = e ∙ sets_put v s p h
 
 -- and what a write to a part leaves
 pub mid_put : (p n : ℕ) (s v : List ℕ) → n ≡ length v → put_mid p n s v ≡ put v s p
@@ -102,19 +98,6 @@ put-put a b s p h =
     ∙ sym (sets_put b (sets s p a) (p + length a) two)
     ∙ sym (sets_append a b s p)
     ∙ sets_put (a ++ b) s p both
-
--- a number that is put in two fields, the lower one first
-pub put_halves : (n m x : ℕ) (s l t : List ℕ) (p : ℕ) → p + n + m ≤ length s → l ≡ put (le_bytes n (x % 256 ^ n)) s p → t ≡ put (le_bytes m (x / 256 ^ n)) l (p + n)
-    → t ≡ put (le_bytes (n + m) x) s p
-put_halves n m x s l t p h e f =
-    let low = le_bytes n x in
-    let high = le_bytes m (x / 256 ^ n) in
-    let size : length low ≡ n = le_bytes-length n x in
-    let room : p + length low + length high ≤ length s = omega (arith, le_bytes-length m (x / 256 ^ n)) in
-    f ∙ ap (λ (y : List ℕ). put high y (p + n)) (e ∙ ap (λ (b : List ℕ). put b s p) (le_bytes-cut n x))
-    ∙ ap (λ (k : ℕ). put high (put low s p) (p + k)) (sym size)
-    ∙ put-put low high s p room
-    ∙ ap (λ (b : List ℕ). put b s p) (sym (le_bytes-add n m x))
 
 -- bytes behind those that were put
 pub put_next : (a b s l t : List ℕ) (p k n : ℕ) → p + length a ≡ k → length b ≡ n → k + n ≤ length s → l ≡ put a s p → t ≡ put b l k → t ≡ put (a ++ b) s p

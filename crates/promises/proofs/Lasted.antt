@@ -1,5 +1,6 @@
 -- The records that lasted are a chain of the bytes left. Behind it nothing is left, or stood a record that was torn.
 -- Assumes nothing.
+use Rattle.std.specs.Prelude.{Ok}
 use mathlib.Core.Path.{◌≡◌, refl, ap, ◌∙◌}
 use mathlib.Core.Bool.{Bool, true, false}
 use mathlib.Core.List.{List, ◌∷◌, ◌++◌}
@@ -12,7 +13,6 @@ use borrow.Author.Tests.{leb-true, leb-false}
 use Rattle.fields.proofs.Zeroed.{zeroed, drop-zeroed}
 use Rattle.prefix.specs.Prefix.{prefix_length}
 use Rattle.record.specs.declared.Record.{Record}
-use Rattle.record.specs.declared.Seen.TheVariants.{Sound}
 use Rattle.record.specs.Seen.{seen}
 use Rattle.record.proofs.Zeroed.{stays}
 use Rattle.index.specs.Entries.{length_of}
@@ -31,7 +31,7 @@ module _ (limit k m : ℕ) (t : List ℕ) where
     pub torn : Record
     pub after : List Record
     pub among : rs ≡ whole_in k rs ++ torn ∷ after
-    pub stood : stands_at limit t place ≡ Sound torn
+    pub stood : stands_at limit t place ≡ Ok torn
     pub not_whole : k < place + length_of torn
 
   -- the records that lasted are a chain of the bytes left; behind it nothing is left, or a record was torn
@@ -60,7 +60,7 @@ module _ (limit k m : ℕ) (t : List ℕ) (h : prefix_length ≤ k) (l : k - pre
           let w = (within limit t p r s).1 in
           let x = leb-true (r.place + length_of r) k q in
           let i = ih (omega arith) (omega arith) c d in
-          let head : seen limit p (rest (left limit k m t) p) ≡ Sound r = rw (rest-left p a b) (stays limit p (k - p) (m - k) (rest t p) r s (rest_long p a b) (omega arith)) in
+          let head : seen limit p (rest (left limit k m t) p) ≡ Ok r = rw (rest-left p a b) (stays limit p (k - p) (m - k) (rest t p) r s (rest_long p a b) (omega arith)) in
           record { place = i.place; chain = rw q (next head i.chain); inside = i.inside; then = more i.then }
         where
           more : {e : ℕ} → (m ≡ e) ⊎ Torn limit k m t rs e → (m ≡ e) ⊎ Torn limit k m t (r ∷ rs) e

@@ -1,6 +1,7 @@
 -- The bytes that a loss leaves, as a journal: the front is the one that was written, and the records that lasted lead to their end. Where the first
 -- records lead to a place at which none stands, the scan's answer is the one of that place.
 -- Assumes nothing.
+use Rattle.std.specs.Prelude.{Ok, Err}
 use mathlib.Core.Path.{◌≡◌, sym, ap, subst, ◌∙◌}
 use mathlib.Core.List.{List, ◌++◌, append_assoc}
 use mathlib.Core.Logic.{◌⊎◌, inl, inr}
@@ -14,7 +15,6 @@ use Rattle.fields.proofs.Zeroed.{zeroed, length-zeroed, drop-zeroed}
 use Rattle.prefix.specs.Prefix.{prefix_length, slot_zero, slot_one}
 use Rattle.record.specs.declared.Record.{Record}
 use Rattle.record.specs.declared.Row.{Row}
-use Rattle.record.specs.declared.Seen.TheVariants.{Sound, Fault}
 use Rattle.record.specs.Seen.{seen}
 use Rattle.index.specs.declared.Entry.{Entry}
 use Rattle.index.specs.Entries.{numbers_of, entries_of, overlay}
@@ -119,7 +119,7 @@ module _ (limit N : ℕ) (lent : List Entry) (s : List ℕ) (rs : List Record) (
   pub then_is : (m ≡ e) ⊎ Torn limit k m (behind_prefix s) rs e
   then_is = subst (λ (p : ℕ). (m ≡ p) ⊎ Torn limit k m (behind_prefix s) rs p) (sym place_is) st.then
 
-  pub stood_is : (y : Torn limit k m (behind_prefix s) rs e) → seen limit e (drop e s) ≡ Sound y.torn
+  pub stood_is : (y : Torn limit k m (behind_prefix s) rs e) → seen limit e (drop e s) ≡ Ok y.torn
   unfolding stands_at
   stood_is y = rw (rest-drop s e (end_past (whole_in k rs))) at y.stood
 
@@ -138,7 +138,7 @@ module _ (limit N : ℕ) (lent : List Entry) (s : List ℕ) (rs : List Record) (
   pub record StopsAt (us : List Record) (p : ℕ) (row : Row) : Type 0 where
     pub chain : Chain limit (behind_prefix bytes) prefix_length us p
     pub first : (more : List Record) × (rs ≡ us ++ more)
-    pub stands : stands_at limit (behind_prefix bytes) p ≡ Fault row
+    pub stands : stands_at limit (behind_prefix bytes) p ≡ Err row
 
   module _ {us : List Record} {p : ℕ} {row : Row} (st : StopsAt us p row) where
     -- every chain is a front part of the records written

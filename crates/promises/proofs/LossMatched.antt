@@ -1,6 +1,7 @@
 -- At the last place of a loss, where a CRC matches by chance. The record that matches is the one that was torn. Where its code didn't last, its body
 -- doesn't read, and it is 14; else it is seen as before, and only zeros stand behind it.
 -- Assumes nothing.
+use Rattle.std.specs.Prelude.{Ok, Err}
 use mathlib.Core.Path.{◌≡◌, refl, sym, ap, subst, ◌∙◌}
 use mathlib.Core.Bool.{Bool, true, false}
 use mathlib.Core.List.{List, [], ◌∷◌, ◌++◌}
@@ -16,7 +17,6 @@ use Rattle.prefix.specs.Prefix.{prefix_length}
 use Rattle.record.specs.declared.Record.{Record}
 use Rattle.record.specs.declared.Row.{Row}
 use Rattle.record.specs.declared.Row.TheVariants.{ComplementWrong, BodyUnread}
-use Rattle.record.specs.declared.Seen.TheVariants.{Sound, Fault}
 use Rattle.record.specs.Seen.{head_length, crc_field, body_in, seen}
 use Rattle.record.proofs.SoundBoth.{under_12, complement_wrong}
 use Rattle.record.proofs.Chance.{matched_kept, matched_unread}
@@ -46,7 +46,7 @@ unfolding stop_at cell_in table_of
 body_cell limit N B t e h = rw (ne_eqb (length (rest t e)) 0 (omega arith))
 
 -- 12 zeros or more have a wrong complement
-zeros_seen : (limit p : ℕ) (v : List ℕ) → head_length ≤ length v → ((i : ℕ) → get_or v i 0 ≡ 0) → seen limit p v ≡ Fault ComplementWrong
+zeros_seen : (limit p : ℕ) (v : List ℕ) → head_length ≤ length v → ((i : ℕ) → get_or v i 0 ≡ 0) → seen limit p v ≡ Err ComplementWrong
 zeros_seen limit p v h z =
     let a = le-zero 4 v 0 (λ i f g. z i) in
     let b = le-zero 4 v 4 (λ i f g. z i) in
@@ -76,7 +76,7 @@ module _ (limit N : ℕ) (lent : List Entry) (s : List ℕ) (rs : List Record) (
   whole_chain : Chain limit (behind_prefix s) prefix_length (c.before ++ was ∷ c.after) x.reach
   whole_chain = subst (λ (v : List Record). Chain limit (behind_prefix s) prefix_length v x.reach) c.among x.chain
 
-  splits : (p : ℕ) × (p ≡ prefix_length + bytes_of c.before) × (stands_at limit (behind_prefix s) p ≡ Sound was)
+  splits : (p : ℕ) × (p ≡ prefix_length + bytes_of c.before) × (stands_at limit (behind_prefix s) p ≡ Ok was)
       × Chain limit (behind_prefix s) (p + length_of was) c.after x.reach
   splits = chain_split limit (behind_prefix s) c.before was c.after whole_chain
 
@@ -92,10 +92,10 @@ module _ (limit N : ℕ) (lent : List Entry) (s : List ℕ) (rs : List Record) (
   pub was_there : was.place ≡ e
   was_there = (within limit (behind_prefix s) splits.0 was splits.2).1 ∙ torn_place
 
-  stood : seen limit e (drop e s) ≡ Sound was
+  stood : seen limit e (drop e s) ≡ Ok was
   unfolding stands_at
   stood =
-      let y : seen limit e (rest (behind_prefix s) e) ≡ Sound was = subst (λ (p : ℕ). seen limit p (rest (behind_prefix s) p) ≡ Sound was) torn_place splits.2 in
+      let y : seen limit e (rest (behind_prefix s) e) ≡ Ok was = subst (λ (p : ℕ). seen limit p (rest (behind_prefix s) p) ≡ Ok was) torn_place splits.2 in
       rw (rest-drop s e past) at y
 
   match_is : crc_of (body_in (zeroed (k - e) (m - k) (drop e s))) ≡ crc_field (zeroed (k - e) (m - k) (drop e s))
@@ -109,7 +109,7 @@ module _ (limit N : ℕ) (lent : List Entry) (s : List ℕ) (rs : List Record) (
   -- ---- its code didn't last
 
   module _ (low : k < was.place + head_length + was.frame) where
-    unread_there : stands_at limit (behind_prefix bytes) e ≡ Fault BodyUnread
+    unread_there : stands_at limit (behind_prefix bytes) e ≡ Err BodyUnread
     unfolding stands_at
     unread_there =
         let w = was_there in
@@ -136,7 +136,7 @@ module _ (limit N : ℕ) (lent : List Entry) (s : List ℕ) (rs : List Record) (
     u_past : prefix_length ≤ u
     u_past = omega (arith, was_there, past)
 
-    sound_there : stands_at limit (behind_prefix bytes) e ≡ Sound was
+    sound_there : stands_at limit (behind_prefix bytes) e ≡ Ok was
     unfolding stands_at
     sound_there =
         let w = was_there in
@@ -172,7 +172,7 @@ module _ (limit N : ℕ) (lent : List Entry) (s : List ℕ) (rs : List Record) (
     abbrev Claim : Type 0
     Claim = LeftOpens limit N lent s bytes (whole_in u rs) (loss_cut s u u m)
 
-    stops : {row : Row} → seen limit u (rest (behind_prefix bytes) u) ≡ Fault row → StopsAt limit N lent s rs k m x (whole_in u rs) u row
+    stops : {row : Row} → seen limit u (rest (behind_prefix bytes) u) ≡ Err row → StopsAt limit N lent s rs k m x (whole_in u rs) u row
     unfolding stands_at
     stops v = record { chain = through; first = whole_part limit u (behind_prefix s) x.chain; stands = v }
 
@@ -183,7 +183,7 @@ module _ (limit N : ℕ) (lent : List Entry) (s : List ℕ) (rs : List Record) (
         subst (LeftOpens limit N lent s bytes (whole_in u rs)) (sym (cut-none s u u m i))
         (whole_by limit N lent s rs k m x (stops (empty_under limit (behind_prefix bytes) u n)) durable_there n)
 
-    some_behind : {row : Row} {cut : Cut} → eqb m u ≡ false → seen limit u (rest (behind_prefix bytes) u) ≡ Fault row
+    some_behind : {row : Row} {cut : Cut} → eqb m u ≡ false → seen limit u (rest (behind_prefix bytes) u) ≡ Err row
         → Reason limit N (rest (behind_prefix bytes) u) row cut → cut ≡ loss_cut s u u m → Claim
     some_behind z v reason q =
         let n : m ≡ u → ⊥ = eqb-false m u z in

@@ -1,6 +1,7 @@
 -- At the last place of a loss: what is left opens with the records that lasted where N is enough and no CRC matches by chance; where a head lasted in
 -- part and N isn't enough, it is 11.
 -- Assumes nothing.
+use Rattle.std.specs.Prelude.{Err}
 use mathlib.Core.Path.{◌≡◌, refl, sym, ap, subst, ◌∙◌}
 use mathlib.Core.Bool.{Bool, true, false}
 use mathlib.Core.List.{List}
@@ -16,7 +17,6 @@ use Rattle.fields.proofs.Zeroed.{zeroed, drop-zeroed, lasts}
 use Rattle.prefix.specs.Prefix.{prefix_length}
 use Rattle.record.specs.declared.Record.{Record}
 use Rattle.record.specs.declared.Row.TheVariants.{Under12, ComplementWrong}
-use Rattle.record.specs.declared.Seen.TheVariants.{Fault}
 use Rattle.record.specs.Seen.{crc_field, body_in, seen}
 use Rattle.record.proofs.SoundBoth.{record-body}
 use Rattle.index.specs.declared.Entry.{Entry}
@@ -112,7 +112,7 @@ module _ (limit N : ℕ) (lent : List Entry) (s : List ℕ) (rs : List Record) (
         let c =
         cutting limit N s k e m (small limit N lent s rs k m x) in_k x.place_inside l nz y.torn (stood_is limit N lent s rs k m x y) y.not_whole near (no_match y) ne
         in
-        let row-there : seen limit e (rest (behind_prefix bytes) e) ≡ Fault c.row = rw (rest_is limit N lent s rs k m x) c.row_is in
+        let row-there : seen limit e (rest (behind_prefix bytes) e) ≡ Err c.row = rw (rest_is limit N lent s rs k m x) c.row_is in
         let there : StopsAt limit N lent s rs k m x (whole_in k rs) e c.row =
         record { chain = chain_is limit N lent s rs k m x; first = first_lasted limit N lent s rs k m x; stands = row-there }
         in
@@ -137,7 +137,7 @@ module _ (limit N : ℕ) (lent : List Entry) (s : List ℕ) (rs : List Record) (
         go (inl i) = absurd (omega (arith, part.long))
         go (inr y) = y
 
-    stands_there : stands_at limit (behind_prefix bytes) e ≡ Fault ComplementWrong
+    stands_there : stands_at limit (behind_prefix bytes) e ≡ Err ComplementWrong
     unfolding stands_at
     stands_there =
         rw (rest_is limit N lent s rs k m x)

@@ -1,5 +1,6 @@
 -- At most one record more lasts than those that are whole at the place: behind it stand only zeros, and no record has a length and a complement of 0.
 -- Assumes nothing.
+use Rattle.std.specs.Prelude.{Ok}
 use mathlib.Core.Path.{◌≡◌, refl, ap, ◌∙◌}
 use mathlib.Core.Bool.{Bool, true, false}
 use mathlib.Core.List.{List, [], ◌∷◌, ◌++◌}
@@ -12,7 +13,6 @@ use borrow.Author.Tests.{leb-true, leb-false, le-leb}
 use Rattle.fields.proofs.Zeroed.{le-zero}
 use Rattle.prefix.specs.Prefix.{prefix_length}
 use Rattle.record.specs.declared.Record.{Record}
-use Rattle.record.specs.declared.Seen.TheVariants.{Sound}
 use Rattle.record.proofs.SoundBoth.{sound_is}
 use Rattle.index.specs.Entries.{length_of}
 use Rattle.journal.specs.Walk.{rest, stands_at, Chain, nothing, next}
@@ -24,7 +24,7 @@ use Rattle.promises.proofs.LeftBytes.{rest-drop}
 
 -- all bytes of s from k to j are 0
 module _ (limit k j : ℕ) (s : List ℕ) (a : k ≤ j) (zeros : (i : ℕ) → k ≤ i → i < j → get_or s i 0 ≡ 0) where
-  no_zero_head : (p : ℕ) (r : Record) → prefix_length ≤ p → k ≤ p → p + length_of r ≤ j → stands_at limit (behind_prefix s) p ≡ Sound r → ⊥
+  no_zero_head : (p : ℕ) (r : Record) → prefix_length ≤ p → k ≤ p → p + length_of r ≤ j → stands_at limit (behind_prefix s) p ≡ Ok r → ⊥
   unfolding stands_at
   no_zero_head p r h b c e =
       let f = (sound_is limit p (rest (behind_prefix s) p) r e).0 in

@@ -1,5 +1,6 @@
 -- Where a record was torn: the row that holds there, its reason, and what is cut.
 -- Assumes nothing.
+use Rattle.std.specs.Prelude.{Ok, Err}
 use mathlib.Core.Path.{◌≡◌, refl, sym, ap, ◌∙◌}
 use mathlib.Core.Bool.{Bool, true, false}
 use mathlib.Core.List.{List}
@@ -16,7 +17,6 @@ use Rattle.fields.proofs.Zeroed.{zeroed, length-zeroed, lasts, lost, zeros_or_no
 use Rattle.record.specs.declared.Record.{Record}
 use Rattle.record.specs.declared.Row.{Row}
 use Rattle.record.specs.declared.Row.TheVariants.{Under12, ComplementWrong, NotWhole, CrcWrong}
-use Rattle.record.specs.declared.Seen.TheVariants.{Sound, Fault}
 use Rattle.record.specs.Seen.{head_length, length_field, crc_field, body_in, seen}
 use Rattle.record.proofs.SoundBoth.{record-body}
 use Rattle.record.proofs.Zeroed.{few, head_lost, same_length, body_short, body_lost}
@@ -54,7 +54,7 @@ module _ (s : List ℕ) (k e m : ℕ) where
 
 -- the record r stood at e, and isn't whole at k, where a byte that isn't 0 was lost; q is all that is left from e on
 module _ (limit N : ℕ) (s : List ℕ) (k e m : ℕ) (small : limit < max32) (a : e ≤ k) (b : k ≤ m) (l : m ≤ length s) (nz : k < m → get_or s k 0 ≡ 0 → ⊥)
-    (r : Record) (stood : seen limit e (drop e s) ≡ Sound r) (torn : k < e + length_of r) where
+    (r : Record) (stood : seen limit e (drop e s) ≡ Ok r) (torn : k < e + length_of r) where
   abbrev q : List ℕ
   q = zeroed (k - e) (m - k) (drop e s)
 
@@ -71,7 +71,7 @@ module _ (limit N : ℕ) (s : List ℕ) (k e m : ℕ) (small : limit < max32) (a
   pub record Cutting : Type 0 where
     pub row : Row
     pub cut : Cut
-    pub row_is : seen limit e q ≡ Fault row
+    pub row_is : seen limit e q ≡ Err row
     pub reason : Reason limit N q row cut
     pub cut_is : cut ≡ loss_cut s k e m
 
@@ -103,7 +103,7 @@ module _ (limit N : ℕ) (s : List ℕ) (k e m : ℕ) (small : limit < max32) (a
           })
 
   -- a wrong complement
-  pub head-row : k < e + 8 → e + head_length ≤ m → seen limit e q ≡ Fault ComplementWrong
+  pub head-row : k < e + 8 → e + head_length ≤ m → seen limit e q ≡ Err ComplementWrong
   head-row i j =
       let n : e + (k - e) ≡ k = omega arith in
       head_lost limit e (k - e) (m - k) (drop e s) r stood long small (omega arith) (omega arith)

@@ -1,6 +1,7 @@
 -- The records of a chain that are whole at a place: the first ones, and those of a later place have them all in front. Where one record is known to
 -- be torn there, they are exactly the ones before it.
 -- Assumes nothing.
+use Rattle.std.specs.Prelude.{Ok}
 use mathlib.Core.Path.{◌≡◌, refl, sym, ap, subst, ◌∙◌}
 use mathlib.Core.Bool.{Bool, true, false}
 use mathlib.Core.List.{List, [], ◌∷◌, ◌++◌, append-nil}
@@ -10,7 +11,6 @@ use lib.Dec.{leb}
 use borrow.Author.Tests.{leb-true, leb-false, le-leb, lt-leb}
 use Rattle.fields.specs.Fields.{pick}
 use Rattle.record.specs.declared.Record.{Record}
-use Rattle.record.specs.declared.Seen.TheVariants.{Sound}
 use Rattle.index.specs.Entries.{length_of, bytes_of}
 use Rattle.index.proofs.Filing.{bytes-append}
 use Rattle.journal.specs.Walk.{stands_at, Chain, nothing, next, end_of}
@@ -88,7 +88,7 @@ ends_later xs ys = omega (arith, bytes-append xs ys)
 module _ (limit : ℕ) (t : List ℕ) where
   -- where it stands, and the chain behind it
   pub chain_split : {p f : ℕ} (xs : List Record) (y : Record) (ys : List Record) → Chain limit t p (xs ++ y ∷ ys) f
-      → (e : ℕ) × (e ≡ p + bytes_of xs) × (stands_at limit t e ≡ Sound y) × Chain limit t (e + length_of y) ys f
+      → (e : ℕ) × (e ≡ p + bytes_of xs) × (stands_at limit t e ≡ Ok y) × Chain limit t (e + length_of y) ys f
   unfolding bytes_of
   chain_split {p} [] y ys (next s c) = (p, omega arith, s, c)
   chain_split {p} (x ∷ xs) y ys (next s c) =

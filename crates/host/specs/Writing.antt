@@ -1,13 +1,11 @@
 -- What a host hands in for writing, as the layers below take it, and what it gets.
 -- Assumes nothing.
-use Rattle.std.specs.Prelude.{ℕ, Bool, ◌||◌, List, [], ◌∷◌, leb, ltb, eqb, get_or, replicate}
+use Rattle.std.specs.Prelude.{ℕ, Bool, ◌||◌, List, [], ◌∷◌, leb, ltb, eqb, get_or, replicate, Result, Ok, Err}
 use Rattle.fields.specs.Fields.{max32, pick}
 use Rattle.prefix.specs.Slots.{slot_bytes, fresh_next, fresh_slots}
-use Rattle.prefix.specs.declared.FreshNext.{FreshNext}
-use Rattle.prefix.specs.declared.FreshNext.TheVariants.{Next, Exhausted}
+use Rattle.refusals.specs.Refusals.{number_in}
+use Rattle.refusals.specs.declared.Refusal.{Refusal}
 use Rattle.prefix.specs.declared.Header.{Header}
-use Rattle.prefix.specs.declared.PrefixWritten.{PrefixWritten}
-use Rattle.prefix.specs.declared.PrefixWritten.TheVariants as prefixes
 use Rattle.prefix.specs.declared.Slot.{Slot}
 use Rattle.record.specs.Body.{plain, counter}
 use Rattle.record.specs.Write.{write_answer, write_out}
@@ -77,9 +75,9 @@ header_by m = record { seconds = m.seconds; nanoseconds = nanoseconds_by m.nanos
 abbrev pub images_by : Slots → List (List ℕ)
 images_by s = s.zero ∷ s.one ∷ []
 
-abbrev pub prefix_wrote : PrefixWritten → Wrote
-prefix_wrote (prefixes.Written n) = record { number = 0; place = 0; length = n }
-prefix_wrote (prefixes.NotWritten number place) = refused_write number place
+abbrev pub prefix_wrote : Result ℕ Refusal → Wrote
+prefix_wrote (Ok n) = record { number = 0; place = 0; length = n }
+prefix_wrote (Err e) = refused_write (number_in e.reason) e.place
 
 -- ---- the slots
 
@@ -102,9 +100,9 @@ abbrev pub slots_of : List (List ℕ) → Slots
 slots_of images = record { zero = get_or images 0 []; one = get_or images 1 [] }
 
 -- two fresh ones, and the generation after theirs; 15 with zeros, or 28 with zeros where a reset is neither owed nor not
-abbrev pub fresh_of : FreshNext → List (List ℕ) → Fresh
-fresh_of (Next n) images = record { number = 0; place = 0; next = n; slots = slots_of images }
-fresh_of (Exhausted number place) images = record { number = number; place = place; next = 0; slots = slots_of images }
+abbrev pub fresh_of : Result ℕ Refusal → List (List ℕ) → Fresh
+fresh_of (Ok n) images = record { number = 0; place = 0; next = n; slots = slots_of images }
+fresh_of (Err e) images = record { number = number_in e.reason; place = e.place; next = 0; slots = slots_of images }
 
 abbrev pub refused_fresh : Fresh
 refused_fresh = record { number = 28; place = 0; next = 0; slots = record { zero = replicate 52 0; one = replicate 52 0 } }

@@ -3,8 +3,8 @@ ghost use Rattle.std.specs.Prelude.{◌≡◌};
 ghost use Rattle.host.specs.Writing.{refused_write, record_wrote, prefix_wrote, sealed_as, slots_of, fresh_of, refused_fresh, refused_image};
 
 use crate::{Fresh, Image, Sealed, Slots, Wrote};
-use prefix::{FreshNext, PrefixWritten};
 use record::{RecordSealed, RecordWritten};
+use refusals::Refusal;
 
 pub(crate) fn refused_write(number: u64, place: u64) -> Wrote
     ensures { result ≡ refused_write number place }
@@ -29,16 +29,16 @@ pub(crate) fn record_wrote(answer: RecordWritten) -> Wrote
     }
 }
 
-pub(crate) fn prefix_wrote(answer: PrefixWritten) -> Wrote
+pub(crate) fn prefix_wrote(answer: Result<usize, Refusal>) -> Wrote
     ensures { result ≡ prefix_wrote answer }
 {
     match answer {
-        PrefixWritten::Written(length) => Wrote {
+        Ok(length) => Wrote {
             number: 0,
             place: 0,
             length: length as u64,
         },
-        PrefixWritten::NotWritten { number, place } => refused_write(number as u64, place),
+        Err(refusal) => refused_write(refusal.reason.number() as u64, refusal.place),
     }
 }
 
@@ -65,20 +65,20 @@ fn slots_of(images: [[u8; 52]; 2]) -> Slots
     Slots { zero, one }
 }
 
-pub(crate) fn fresh_of(next: FreshNext, images: [[u8; 52]; 2]) -> Fresh
+pub(crate) fn fresh_of(next: Result<u64, Refusal>, images: [[u8; 52]; 2]) -> Fresh
     ensures { result ≡ fresh_of next images }
 {
     let slots = slots_of(images);
     match next {
-        FreshNext::Next(generation) => Fresh {
+        Ok(next) => Fresh {
             number: 0,
             place: 0,
-            next: generation,
+            next,
             slots,
         },
-        FreshNext::Exhausted { number, place } => Fresh {
-            number: number as u64,
-            place,
+        Err(refusal) => Fresh {
+            number: refusal.reason.number() as u64,
+            place: refusal.place,
             next: 0,
             slots,
         },

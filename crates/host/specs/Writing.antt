@@ -12,10 +12,9 @@ use Rattle.record.specs.Write.{write_answer, write_out}
 use Rattle.record.specs.declared.Kind.{Kind}
 use Rattle.record.specs.declared.Kind.TheVariants.{Plain, Counter}
 use Rattle.record.specs.declared.MsgType.{MsgType}
-use Rattle.record.specs.declared.RecordSealed.{RecordSealed}
-use Rattle.record.specs.declared.RecordSealed.TheVariants.{Sealed, NotSealed}
-use Rattle.record.specs.declared.RecordWritten.{RecordWritten}
-use Rattle.record.specs.declared.RecordWritten.TheVariants.{Written, NotWritten}
+use Rattle.std.specs.Prelude.{Result, Ok, Err, ⊤}
+use Rattle.refusals.specs.Refusals.{number_in}
+use Rattle.refusals.specs.declared.Refusal.{Refusal}
 use Rattle.host.specs.declared.Code.{Code}
 use Rattle.host.specs.declared.Counters.{Counters}
 use Rattle.host.specs.declared.Fresh.{Fresh}
@@ -45,9 +44,9 @@ code_by c = record { bytes = c.bytes; len = letters_by c.letters }
 abbrev pub refused_write : (number place : ℕ) → Wrote
 refused_write number place = record { number = number; place = place; length = 0 }
 
-abbrev pub record_wrote : RecordWritten → Wrote
-record_wrote (Written n) = record { number = 0; place = 0; length = n }
-record_wrote (NotWritten number place) = refused_write number place
+abbrev pub record_wrote : Result ℕ Refusal → Wrote
+record_wrote (Ok n) = record { number = 0; place = 0; length = n }
+record_wrote (Err e) = refused_write (number_in e.reason) e.place
 
 -- 28 where no record has the kind; the output doesn't change then
 unfoldable pub host_wrote : (out : List ℕ) (kind sender number : ℕ) → Code → (frame : List ℕ) (limit : ℕ) → Wrote
@@ -59,9 +58,9 @@ host_write out kind sender number code frame limit =
     pick (is_record_kind kind) (write_out out (kind_by kind sender) number (code_by code) frame limit) out
 
 -- what sealing answers
-abbrev pub sealed_as : RecordSealed → seals.Sealed
-sealed_as Sealed = record { number = 0; place = 0 }
-sealed_as (NotSealed number place) = record { number = number; place = place }
+abbrev pub sealed_as : Result ⊤ Refusal → seals.Sealed
+sealed_as (Ok _) = record { number = 0; place = 0 }
+sealed_as (Err e) = record { number = number_in e.reason; place = e.place }
 
 -- ---- the prefix
 

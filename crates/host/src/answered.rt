@@ -3,7 +3,6 @@ ghost use Rattle.std.specs.Prelude.{◌≡◌};
 ghost use Rattle.host.specs.Writing.{refused_write, record_wrote, prefix_wrote, sealed_as, slots_of, fresh_of, refused_fresh, refused_image};
 
 use crate::{Fresh, Image, Sealed, Slots, Wrote};
-use record::{RecordSealed, RecordWritten};
 use refusals::Refusal;
 
 pub(crate) fn refused_write(number: u64, place: u64) -> Wrote
@@ -16,16 +15,16 @@ pub(crate) fn refused_write(number: u64, place: u64) -> Wrote
     }
 }
 
-pub(crate) fn record_wrote(answer: RecordWritten) -> Wrote
+pub(crate) fn record_wrote(answer: Result<usize, Refusal>) -> Wrote
     ensures { result ≡ record_wrote answer }
 {
     match answer {
-        RecordWritten::Written(length) => Wrote {
+        Ok(length) => Wrote {
             number: 0,
             place: 0,
             length: length as u64,
         },
-        RecordWritten::NotWritten { number, place } => refused_write(number as u64, place),
+        Err(refusal) => refused_write(refusal.reason.number() as u64, refusal.place),
     }
 }
 
@@ -42,17 +41,17 @@ pub(crate) fn prefix_wrote(answer: Result<usize, Refusal>) -> Wrote
     }
 }
 
-pub(crate) fn sealed_as(answer: RecordSealed) -> Sealed
+pub(crate) fn sealed_as(answer: Result<(), Refusal>) -> Sealed
     ensures { result ≡ sealed_as answer }
 {
     match answer {
-        RecordSealed::Sealed => Sealed {
+        Ok(()) => Sealed {
             number: 0,
             place: 0,
         },
-        RecordSealed::NotSealed { number, place } => Sealed {
-            number: number as u64,
-            place,
+        Err(refusal) => Sealed {
+            number: refusal.reason.number() as u64,
+            place: refusal.place,
         },
     }
 }

@@ -1,6 +1,5 @@
 -- The records that lasted are a chain of the bytes left. Behind it nothing is left, or stood a record that was torn.
 -- Assumes nothing.
-use Rattle.std.specs.Prelude.{Ok}
 use mathlib.Core.Path.{◌≡◌, refl, ap, ◌∙◌}
 use mathlib.Core.Bool.{Bool, true, false}
 use mathlib.Core.List.{List, ◌∷◌, ◌++◌}
@@ -13,6 +12,7 @@ use borrow.Author.Tests.{leb-true, leb-false}
 use Rattle.fields.proofs.Zeroed.{zeroed, drop-zeroed}
 use Rattle.prefix.specs.Prefix.{prefix_length}
 use Rattle.record.specs.declared.Record.{Record}
+use Rattle.std.specs.Prelude.{Ok}
 use Rattle.record.specs.Seen.{seen}
 use Rattle.record.proofs.Zeroed.{stays}
 use Rattle.index.specs.Entries.{length_of}

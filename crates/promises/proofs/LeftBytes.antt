@@ -1,7 +1,6 @@
 -- The bytes that a loss leaves, as a journal: the front is the one that was written, and the records that lasted lead to their end. Where the first
 -- records lead to a place at which none stands, the scan's answer is the one of that place.
 -- Assumes nothing.
-use Rattle.std.specs.Prelude.{Ok, Err}
 use mathlib.Core.Path.{◌≡◌, sym, ap, subst, ◌∙◌}
 use mathlib.Core.List.{List, ◌++◌, append_assoc}
 use mathlib.Core.Logic.{◌⊎◌, inl, inr}
@@ -15,6 +14,7 @@ use Rattle.fields.proofs.Zeroed.{zeroed, length-zeroed, drop-zeroed}
 use Rattle.prefix.specs.Prefix.{prefix_length, slot_zero, slot_one}
 use Rattle.record.specs.declared.Record.{Record}
 use Rattle.record.specs.declared.Row.{Row}
+use Rattle.std.specs.Prelude.{Ok, Err}
 use Rattle.record.specs.Seen.{seen}
 use Rattle.index.specs.declared.Entry.{Entry}
 use Rattle.index.specs.Entries.{numbers_of, entries_of, overlay}

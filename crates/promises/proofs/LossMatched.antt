@@ -1,7 +1,6 @@
 -- At the last place of a loss, where a CRC matches by chance. The record that matches is the one that was torn. Where its code didn't last, its body
 -- doesn't read, and it is 14; else it is seen as before, and only zeros stand behind it.
 -- Assumes nothing.
-use Rattle.std.specs.Prelude.{Ok, Err}
 use mathlib.Core.Path.{◌≡◌, refl, sym, ap, subst, ◌∙◌}
 use mathlib.Core.Bool.{Bool, true, false}
 use mathlib.Core.List.{List, [], ◌∷◌, ◌++◌}
@@ -17,6 +16,7 @@ use Rattle.prefix.specs.Prefix.{prefix_length}
 use Rattle.record.specs.declared.Record.{Record}
 use Rattle.record.specs.declared.Row.{Row}
 use Rattle.record.specs.declared.Row.TheVariants.{ComplementWrong, BodyUnread}
+use Rattle.std.specs.Prelude.{Ok, Err}
 use Rattle.record.specs.Seen.{head_length, crc_field, body_in, seen}
 use Rattle.record.proofs.SoundBoth.{under_12, complement_wrong}
 use Rattle.record.proofs.Chance.{matched_kept, matched_unread}

@@ -1,7 +1,6 @@
 -- At the last place of a loss: what is left opens with the records that lasted where N is enough and no CRC matches by chance; where a head lasted in
 -- part and N isn't enough, it is 11.
 -- Assumes nothing.
-use Rattle.std.specs.Prelude.{Err}
 use mathlib.Core.Path.{◌≡◌, refl, sym, ap, subst, ◌∙◌}
 use mathlib.Core.Bool.{Bool, true, false}
 use mathlib.Core.List.{List}
@@ -17,6 +16,7 @@ use Rattle.fields.proofs.Zeroed.{zeroed, drop-zeroed, lasts}
 use Rattle.prefix.specs.Prefix.{prefix_length}
 use Rattle.record.specs.declared.Record.{Record}
 use Rattle.record.specs.declared.Row.TheVariants.{Under12, ComplementWrong}
+use Rattle.std.specs.Prelude.{Err}
 use Rattle.record.specs.Seen.{crc_field, body_in, seen}
 use Rattle.record.proofs.SoundBoth.{record-body}
 use Rattle.index.specs.declared.Entry.{Entry}

@@ -1,6 +1,5 @@
 -- At most one record more lasts than those that are whole at the place: behind it stand only zeros, and no record has a length and a complement of 0.
 -- Assumes nothing.
-use Rattle.std.specs.Prelude.{Ok}
 use mathlib.Core.Path.{◌≡◌, refl, ap, ◌∙◌}
 use mathlib.Core.Bool.{Bool, true, false}
 use mathlib.Core.List.{List, [], ◌∷◌, ◌++◌}
@@ -13,6 +12,7 @@ use borrow.Author.Tests.{leb-true, leb-false, le-leb}
 use Rattle.fields.proofs.Zeroed.{le-zero}
 use Rattle.prefix.specs.Prefix.{prefix_length}
 use Rattle.record.specs.declared.Record.{Record}
+use Rattle.std.specs.Prelude.{Ok}
 use Rattle.record.proofs.SoundBoth.{sound_is}
 use Rattle.index.specs.Entries.{length_of}
 use Rattle.journal.specs.Walk.{rest, stands_at, Chain, nothing, next}

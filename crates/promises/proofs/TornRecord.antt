@@ -1,6 +1,5 @@
 -- Where a record was torn: the row that holds there, its reason, and what is cut.
 -- Assumes nothing.
-use Rattle.std.specs.Prelude.{Ok, Err}
 use mathlib.Core.Path.{◌≡◌, refl, sym, ap, ◌∙◌}
 use mathlib.Core.Bool.{Bool, true, false}
 use mathlib.Core.List.{List}
@@ -17,6 +16,7 @@ use Rattle.fields.proofs.Zeroed.{zeroed, length-zeroed, lasts, lost, zeros_or_no
 use Rattle.record.specs.declared.Record.{Record}
 use Rattle.record.specs.declared.Row.{Row}
 use Rattle.record.specs.declared.Row.TheVariants.{Under12, ComplementWrong, NotWhole, CrcWrong}
+use Rattle.std.specs.Prelude.{Ok, Err}
 use Rattle.record.specs.Seen.{head_length, length_field, crc_field, body_in, seen}
 use Rattle.record.proofs.SoundBoth.{record-body}
 use Rattle.record.proofs.Zeroed.{few, head_lost, same_length, body_short, body_lost}

@@ -1,7 +1,6 @@
 -- The records of a chain that are whole at a place: the first ones, and those of a later place have them all in front. Where one record is known to
 -- be torn there, they are exactly the ones before it.
 -- Assumes nothing.
-use Rattle.std.specs.Prelude.{Ok}
 use mathlib.Core.Path.{◌≡◌, refl, sym, ap, subst, ◌∙◌}
 use mathlib.Core.Bool.{Bool, true, false}
 use mathlib.Core.List.{List, [], ◌∷◌, ◌++◌, append-nil}
@@ -11,6 +10,7 @@ use lib.Dec.{leb}
 use borrow.Author.Tests.{leb-true, leb-false, le-leb, lt-leb}
 use Rattle.fields.specs.Fields.{pick}
 use Rattle.record.specs.declared.Record.{Record}
+use Rattle.std.specs.Prelude.{Ok}
 use Rattle.index.specs.Entries.{length_of, bytes_of}
 use Rattle.index.proofs.Filing.{bytes-append}
 use Rattle.journal.specs.Walk.{stands_at, Chain, nothing, next, end_of}

@@ -10,9 +10,10 @@
 ghost use Rattle.std.specs.Prelude.{◌≡◌, min};
 ghost use Rattle.held.specs.Held.{held_scan, held_insert, held_lookup};
 
-use index::{Entry, Filed, Found};
+use index::{Entry, Filed};
 use journal::Rule;
 use journal::answers::Scan;
+use refusals::Reason;
 
 // What a scan answers, and the entries that it left.
 #[derive(Clone, Copy)]
@@ -24,7 +25,7 @@ pub struct Scanned {
 // What filing an entry answers, and the entries that it left.
 #[derive(Clone, Copy)]
 pub struct Inserted {
-    pub filed: Filed,
+    pub filed: Result<Filed, Reason>,
     pub entries: [Entry; 1024],
 }
 
@@ -32,10 +33,11 @@ pub struct Inserted {
 pub fn within(room: usize) -> usize
     ensures { result ≡ min room 1024 }
 {
-    if room < 1024 { room } else { 1024 }
+    room.min(1024)
 }
 
 // A scan that files in the first `room` entries.
+#[tactic(auto, unfolding(crate::specs::Held::held_scan))]
 pub fn scan(journal: &[u8], rule: Rule, limit: u64, entries: [Entry; 1024], room: usize) -> Scanned
     ensures { result ≡ held_scan limit rule (min room 1024) journal.now entries }
 {
@@ -49,6 +51,7 @@ pub fn scan(journal: &[u8], rule: Rule, limit: u64, entries: [Entry; 1024], room
 }
 
 // An entry filed among the first `room` entries, of which `count` are in use.
+#[tactic(auto, unfolding(crate::specs::Held::held_insert))]
 pub fn insert(
     entries: [Entry; 1024],
     room: usize,
@@ -68,7 +71,8 @@ pub fn insert(
 }
 
 // The entry with a number, of the first `count` of the first `room` entries.
-pub fn lookup(entries: [Entry; 1024], room: usize, count: usize, number: u64) -> Found
+#[tactic(auto, unfolding(crate::specs::Held::held_lookup))]
+pub fn lookup(entries: [Entry; 1024], room: usize, count: usize, number: u64) -> Option<Entry>
     ensures { result ≡ held_lookup (min room 1024) entries count number }
 {
     let k = within(room);

@@ -3,11 +3,17 @@ ghost use Rattle.std.specs.Prelude.{◌≤◌};
 
 use crate::indexes;
 use fields::Cursor;
-use index::{Entry, Filed, Found};
+use index::{Entry, Filed};
+use refusals::Reason;
 
-// The answer to an insertion, up to the index.
-fn put_filed(out: &mut [u8], filed: Filed) -> Cursor {
-    let c = framed::begin(out, filed.number, 0);
+// The answer to an insertion, up to the index. Count and dead bytes are zeros where the entry was refused.
+fn put_filed(out: &mut [u8], answer: Result<Filed, Reason>) -> Cursor {
+    let number = match answer {
+        Ok(_) => 0,
+        Err(reason) => reason.number(),
+    };
+    let filed = answer.unwrap_or_default();
+    let c = framed::begin(out, number, 0);
     let c1 = fields::put_u64(out, c, filed.count as u64);
     fields::put_u64(out, c1, filed.dead)
 }
@@ -46,31 +52,11 @@ pub(crate) fn insert(request: &[u8], out: &mut [u8]) -> usize {
     insert_in(request, room, at, out)
 }
 
-// What was found as an entry, zeros where nothing was.
-fn entry_of(found: Found) -> Entry {
-    match found {
-        Found::At(entry) => entry,
-        Found::Nothing => Entry {
-            number: 0,
-            offset: 0,
-            body: 0,
-        },
-    }
-}
-
-// Whether an entry was found: 1 or 0.
-fn is_found(found: Found) -> u8 {
-    match found {
-        Found::At(_) => 1,
-        Found::Nothing => 0,
-    }
-}
-
-// The answer to a lookup, up to the index.
-fn put_found(out: &mut [u8], found: Found) -> Cursor {
+// The answer to a lookup, up to the index: whether an entry was found, 1 or 0, and the entry, zeros where none was.
+fn put_found(out: &mut [u8], found: Option<Entry>) -> Cursor {
     let c = framed::begin(out, 0, 0);
-    let c1 = fields::put_u8(out, c, is_found(found));
-    indexes::put_entry(out, c1, entry_of(found))
+    let c1 = fields::put_u8(out, c, found.is_some() as u8);
+    indexes::put_entry(out, c1, found.unwrap_or_default())
 }
 
 // The answer to a lookup, whose request has the entries up to `at`.

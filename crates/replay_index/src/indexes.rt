@@ -27,15 +27,9 @@ pub(crate) fn room_at(request: &[u8], at: usize) -> usize
 pub(crate) fn entries_at(request: &[u8], at: usize, room: usize) -> [Entry; 1024]
     requires { (at < 1024) × (room ≤ 1024) }
 {
-    let mut entries = [Entry {
-        number: 0,
-        offset: 0,
-        body: 0,
-    }; 1024];
-    let mut i: usize = 0;
-    while i < room {
-        entries[i] = entry_at(request, at + 24 * i);
-        i += 1;
+    let mut entries = [Entry::default(); 1024];
+    for (i, entry) in entries[..room].iter_mut().enumerate() {
+        *entry = entry_at(request, at + 24 * i);
     }
     entries
 }
@@ -50,10 +44,8 @@ pub(crate) fn put_index(out: &mut [u8], c: Cursor, entries: [Entry; 1024], room:
     requires { room ≤ 1024 }
 {
     let mut next = fields::put_u32(out, c, room as u32);
-    let mut i: usize = 0;
-    while i < room {
-        next = put_entry(out, next, entries[i]);
-        i += 1;
+    for entry in &entries[..room] {
+        next = put_entry(out, next, *entry);
     }
     next
 }

@@ -31,11 +31,7 @@ mod words;
 fn read_back(journal: &[u8], rule: Rule, limit: u64, out: &mut [u8]) -> usize
     ensures { Wrote 0 (scan_text (scan_of limit rule 1024 journal.now) (index_after limit (replicate 1024 none) journal.now)) out.old result out.new }
 {
-    let entries = [Entry {
-        number: 0,
-        offset: 0,
-        body: 0,
-    }; 1024];
+    let entries = [Entry::default(); 1024];
     let scanned = held::scan(journal, rule, limit, entries, 1024);
     let found = scanned.scan;
     let filed = scanned.entries;

@@ -1,6 +1,6 @@
 -- What a host hands in for writing, as the layers below take it, and what it gets.
 -- Assumes nothing.
-use Rattle.std.specs.Prelude.{ℕ, Bool, ◌||◌, List, [], ◌∷◌, leb, ltb, eqb, get_or, replicate, Result, Ok, Err}
+use Rattle.std.specs.Prelude.{ℕ, Bool, ◌||◌, List, [], ◌∷◌, leb, ltb, eqb, get_or, replicate, Result, Ok, Err, ⊤}
 use Rattle.fields.specs.Fields.{max32, pick}
 use Rattle.prefix.specs.Slots.{slot_bytes, fresh_next, fresh_slots}
 use Rattle.refusals.specs.Refusals.{number_in}
@@ -12,9 +12,6 @@ use Rattle.record.specs.Write.{write_answer, write_out}
 use Rattle.record.specs.declared.Kind.{Kind}
 use Rattle.record.specs.declared.Kind.TheVariants.{Plain, Counter}
 use Rattle.record.specs.declared.MsgType.{MsgType}
-use Rattle.std.specs.Prelude.{Result, Ok, Err, ⊤}
-use Rattle.refusals.specs.Refusals.{number_in}
-use Rattle.refusals.specs.declared.Refusal.{Refusal}
 use Rattle.host.specs.declared.Code.{Code}
 use Rattle.host.specs.declared.Counters.{Counters}
 use Rattle.host.specs.declared.Fresh.{Fresh}

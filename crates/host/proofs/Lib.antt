@@ -1,1 +1,2 @@
 pub mod Letters
+pub mod Zeros

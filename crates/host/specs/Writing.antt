@@ -12,6 +12,8 @@ use Rattle.record.specs.Write.{write_answer, write_out}
 use Rattle.record.specs.declared.Kind.{Kind}
 use Rattle.record.specs.declared.Kind.TheVariants.{Plain, Counter}
 use Rattle.record.specs.declared.MsgType.{MsgType}
+use Rattle.refusals.specs.declared.Reason.{Reason}
+use Rattle.refusals.specs.declared.Reason.TheVariants.{Unknown}
 use Rattle.host.specs.declared.Code.{Code}
 use Rattle.host.specs.declared.Counters.{Counters}
 use Rattle.host.specs.declared.Fresh.{Fresh}
@@ -44,6 +46,10 @@ refused_write number place = record { number = number; place = place; length = 0
 abbrev pub record_wrote : Result ℕ Refusal → Wrote
 record_wrote (Ok n) = record { number = 0; place = 0; length = n }
 record_wrote (Err e) = refused_write (number_in e.reason) e.place
+
+-- a reason alone: its number, and zeros
+abbrev pub wrote_for : Reason → Wrote
+wrote_for r = refused_write (number_in r) 0
 
 -- 28 where no record has the kind; the output doesn't change then
 unfoldable pub host_wrote : (out : List ℕ) (kind sender number : ℕ) → Code → (frame : List ℕ) (limit : ℕ) → Wrote
@@ -100,15 +106,21 @@ abbrev pub fresh_of : Result ℕ Refusal → List (List ℕ) → Fresh
 fresh_of (Ok n) images = record { number = 0; place = 0; next = n; slots = slots_of images }
 fresh_of (Err e) images = record { number = number_in e.reason; place = e.place; next = 0; slots = slots_of images }
 
+abbrev pub fresh_for : Reason → Fresh
+fresh_for r = record { number = number_in r; place = 0; next = 0; slots = record { zero = replicate 52 0; one = replicate 52 0 } }
+
 abbrev pub refused_fresh : Fresh
-refused_fresh = record { number = 28; place = 0; next = 0; slots = record { zero = replicate 52 0; one = replicate 52 0 } }
+refused_fresh = fresh_for Unknown
 
 unfoldable pub host_fresh : Counters → Fresh
 host_fresh c = pick (is_yes_no c.reset) (fresh_of (fresh_next c.generation) (fresh_slots (slot_by c))) refused_fresh
 
 -- one as it is written, or 28 with zeros
+abbrev pub image_for : Reason → Image
+image_for r = record { number = number_in r; place = 0; bytes = replicate 52 0 }
+
 abbrev pub refused_image : Image
-refused_image = record { number = 28; place = 0; bytes = replicate 52 0 }
+refused_image = image_for Unknown
 
 unfoldable pub host_image : Counters → Image
 host_image c = pick (is_yes_no c.reset) (record { number = 0; place = 0; bytes = slot_bytes (slot_by c) }) refused_image

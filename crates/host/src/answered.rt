@@ -1,11 +1,12 @@
 // What the layers below answer to writing, as numbers and bytes for a host.
 ghost use Rattle.std.specs.Prelude.{◌≡◌};
-ghost use Rattle.host.specs.Writing.{refused_write, record_wrote, prefix_wrote, sealed_as, slots_of, fresh_of, refused_fresh, refused_image};
+ghost use Rattle.host.specs.Host.{found_for};
+ghost use Rattle.host.specs.Writing.{refused_write, record_wrote, prefix_wrote, sealed_as, fresh_of, wrote_for, fresh_for, image_for};
 
-use crate::{Fresh, Image, Sealed, Slots, Wrote};
-use refusals::Refusal;
+use crate::{Found, Fresh, Image, Sealed, Slots, Wrote};
+use refusals::{Reason, Refusal};
 
-pub(crate) fn refused_write(number: u64, place: u64) -> Wrote
+fn refused_write(number: u64, place: u64) -> Wrote
     ensures { result ≡ refused_write number place }
 {
     Wrote {
@@ -56,18 +57,10 @@ pub(crate) fn sealed_as(answer: Result<(), Refusal>) -> Sealed
     }
 }
 
-fn slots_of(images: [[u8; 52]; 2]) -> Slots
-    ensures { result ≡ slots_of images }
-{
-    let zero = images[0];
-    let one = images[1];
-    Slots { zero, one }
-}
-
 pub(crate) fn fresh_of(next: Result<u64, Refusal>, images: [[u8; 52]; 2]) -> Fresh
     ensures { result ≡ fresh_of next images }
 {
-    let slots = slots_of(images);
+    let slots = Slots::from(images);
     match next {
         Ok(next) => Fresh {
             number: 0,
@@ -84,28 +77,49 @@ pub(crate) fn fresh_of(next: Result<u64, Refusal>, images: [[u8; 52]; 2]) -> Fre
     }
 }
 
-// No slot has that for a yes or no: 28, and zeros.
-pub(crate) fn refused_fresh() -> Fresh
-    ensures { result ≡ refused_fresh }
-{
-    Fresh {
-        number: 28,
-        place: 0,
-        next: 0,
-        slots: Slots {
-            zero: [0; 52],
-            one: [0; 52],
-        },
+// ---- a refusal, or a request that isn't one: the number of the reason, and zeros
+
+impl From<Refusal> for Found {
+    ghost from_gives = { λ e f. f ≡ found_for e };
+
+    fn from(refusal: Refusal) -> Found {
+        Found {
+            number: refusal.reason.number() as u64,
+            place: refusal.place,
+            ..Found::default()
+        }
     }
 }
 
-// The same of one image.
-pub(crate) fn refused_image() -> Image
-    ensures { result ≡ refused_image }
-{
-    Image {
-        number: 28,
-        place: 0,
-        bytes: [0; 52],
+impl From<Reason> for Wrote {
+    ghost from_gives = { λ r w. w ≡ wrote_for r };
+
+    fn from(reason: Reason) -> Wrote {
+        Wrote {
+            number: reason.number() as u64,
+            ..Wrote::default()
+        }
+    }
+}
+
+impl From<Reason> for Fresh {
+    ghost from_gives = { λ r f. f ≡ fresh_for r };
+
+    fn from(reason: Reason) -> Fresh {
+        Fresh {
+            number: reason.number() as u64,
+            ..Fresh::default()
+        }
+    }
+}
+
+impl From<Reason> for Image {
+    ghost from_gives = { λ r i. i ≡ image_for r };
+
+    fn from(reason: Reason) -> Image {
+        Image {
+            number: reason.number() as u64,
+            ..Image::default()
+        }
     }
 }

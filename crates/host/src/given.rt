@@ -1,28 +1,38 @@
-// What a host hands in, as the layers below take it.
-ghost use Rattle.std.specs.Prelude.{◌≡◌};
-ghost use Rattle.host.specs.Writing.{is_record_kind, kind_by, letters_by, code_by, nanoseconds_by, header_by, is_yes_no, slot_by, images_by};
+// What a host hands in, as the layers below take it, and what they answer, as it gets it.
+ghost use Rattle.std.specs.Prelude.{◌≡◌, true, false, MatchResult};
+ghost use Rattle.refusals.specs.declared.Reason.TheVariants.{Unknown};
+ghost use Rattle.host.specs.Host.{known, rule_by, made_of};
+ghost use Rattle.host.specs.Writing.{is_record_kind, kind_by, letters_by, code_by, header_by, is_yes_no, slot_by, images_by, slots_of};
 
 use crate::{Code, Counters, Made, Slots};
+use journal::Rule;
 use prefix::{Header, Slot};
 use record::{Kind, MsgType};
+use refusals::Reason;
 
-// Is it the kind of a record: 1 plain, 5 with the next sender?
-pub(crate) fn is_record_kind(kind: u64) -> bool
-    ensures { result ≡ is_record_kind kind }
+// A rule by its kind: 1 Tail, with records; 2 Anywhere; 3 Salvage; there is no other.
+#[tactic(auto, unfolding(crate::specs::Host::known, crate::specs::Host::rule_by))]
+pub(crate) fn rule_by(kind: u64, records: u64) -> Result<Rule, Reason>
+    ensures { MatchResult result (λ r. (known kind ≡ true) × (r ≡ rule_by kind records)) (λ e. (known kind ≡ false) × (e ≡ Unknown)) }
 {
-    if kind == 1 {
-        return true;
+    match kind {
+        1 => Ok(Rule::Tail { records }),
+        2 => Ok(Rule::Anywhere),
+        3 => Ok(Rule::Salvage),
+        _ => Err(Reason::Unknown),
     }
-    kind == 5
 }
 
-pub(crate) fn kind_by(kind: u64, sender: u64) -> Kind
-    ensures { result ≡ kind_by kind sender }
+// The kind of a record: 1 plain, 5 with the next sender; there is no other.
+#[tactic(auto, unfolding(crate::specs::Writing::is_record_kind, crate::specs::Writing::kind_by))]
+pub(crate) fn kind_by(kind: u64, sender: u64) -> Result<Kind, Reason>
+    ensures { MatchResult result (λ k. (is_record_kind kind ≡ true) × (k ≡ kind_by kind sender)) (λ e. (is_record_kind kind ≡ false) × (e ≡ Unknown)) }
 {
-    if kind == 5 {
-        return Kind::Counter { sender };
+    match kind {
+        1 => Ok(Kind::Plain),
+        5 => Ok(Kind::Counter { sender }),
+        _ => Err(Reason::Unknown),
     }
-    Kind::Plain
 }
 
 // The letters of a code; none where there are more than eight, so that the code is refused.
@@ -36,60 +46,84 @@ fn letters_by(letters: u64) -> u8
     letters as u8
 }
 
-pub(crate) fn code_by(code: Code) -> MsgType
-    ensures { result ≡ code_by code }
-{
-    let bytes = code.bytes;
-    MsgType {
-        bytes,
-        len: letters_by(code.letters),
+impl From<Code> for MsgType {
+    ghost from_gives = { λ c r. r ≡ code_by c };
+
+    #[tactic(auto, unfolding(crate::specs::Writing::code_by))]
+    fn from(code: Code) -> MsgType {
+        let bytes = code.bytes;
+        MsgType {
+            bytes,
+            len: letters_by(code.letters),
+        }
     }
 }
 
-// The nanoseconds of a header; the most that a header holds where there are more, so that they are refused.
-fn nanoseconds_by(nanoseconds: u64) -> u32
-    ensures { result ≡ nanoseconds_by nanoseconds }
-{
-    if 0xffff_ffff < nanoseconds {
-        return 0xffff_ffff;
-    }
-    nanoseconds as u32
-}
+// The most nanoseconds that a header holds stand for more, so that they are refused.
+impl From<Made> for Header {
+    ghost from_gives = { λ m r. r ≡ header_by m };
 
-pub(crate) fn header_by(made: Made) -> Header
-    ensures { result ≡ header_by made }
-{
-    Header {
-        seconds: made.seconds,
-        nanoseconds: nanoseconds_by(made.nanoseconds),
-        sender: made.sender,
-        target: made.target,
+    #[tactic(auto, unfolding(crate::specs::Writing::header_by, crate::specs::Writing::nanoseconds_by))]
+    fn from(made: Made) -> Header {
+        Header {
+            seconds: made.seconds,
+            nanoseconds: u32::try_from(made.nanoseconds).unwrap_or(u32::MAX),
+            sender: made.sender,
+            target: made.target,
+        }
     }
 }
 
-pub(crate) fn is_yes_no(number: u64) -> bool
-    ensures { result ≡ is_yes_no number }
-{
-    number <= 1
-}
+impl From<Header> for Made {
+    ghost from_gives = { λ h r. r ≡ made_of h };
 
-pub(crate) fn slot_by(counters: Counters) -> Slot
-    ensures { result ≡ slot_by counters }
-{
-    Slot {
-        generation: counters.generation,
-        sender: counters.sender,
-        target: counters.target,
-        end: counters.end,
-        watermark: counters.watermark,
-        reset: counters.reset == 1,
+    fn from(header: Header) -> Made {
+        Made {
+            seconds: header.seconds,
+            nanoseconds: header.nanoseconds as u64,
+            sender: header.sender,
+            target: header.target,
+        }
     }
 }
 
-pub(crate) fn images_by(slots: Slots) -> [[u8; 52]; 2]
-    ensures { result ≡ images_by slots }
-{
-    let zero = slots.zero;
-    let one = slots.one;
-    [zero, one]
+// A reset is owed, 1, or not, 0; there is nothing else.
+impl TryFrom<Counters> for Slot {
+    type Error = Reason;
+
+    ghost try_from_gives = { λ c r. MatchResult r (λ s. (is_yes_no c.reset ≡ true) × (s ≡ slot_by c)) (λ e. (is_yes_no c.reset ≡ false) × (e ≡ Unknown)) };
+
+    fn try_from(counters: Counters) -> Result<Slot, Reason> {
+        if 1 < counters.reset {
+            return Err(Reason::Unknown);
+        }
+        Ok(Slot {
+            generation: counters.generation,
+            sender: counters.sender,
+            target: counters.target,
+            end: counters.end,
+            watermark: counters.watermark,
+            reset: counters.reset == 1,
+        })
+    }
+}
+
+impl From<Slots> for [[u8; 52]; 2] {
+    ghost from_gives = { λ s r. r ≡ images_by s };
+
+    fn from(slots: Slots) -> [[u8; 52]; 2] {
+        let zero = slots.zero;
+        let one = slots.one;
+        [zero, one]
+    }
+}
+
+impl From<[[u8; 52]; 2]> for Slots {
+    ghost from_gives = { λ images r. r ≡ slots_of images };
+
+    fn from(images: [[u8; 52]; 2]) -> Slots {
+        let zero = images[0];
+        let one = images[1];
+        Slots { zero, one }
+    }
 }

@@ -1,29 +1,28 @@
--- Numbers in decimal, by their last digit: the digits before it are the tenth's.
+-- Numbers in decimal are what std prints.
 -- Assumes nothing.
 use mathlib.Core.Path.{◌≡◌, ap}
-use mathlib.Core.List.{List, [], ◌∷◌, ◌++◌}
-use Prim.Native.Nat.{ℕ, zero, suc, ◌+◌, ◌/◌, ◌%◌, ◌^◌, ◌≤◌, ◌<◌}
+use mathlib.Core.List.{[], ◌∷◌}
+use Prim.Native.Nat.{ℕ, suc, ◌+◌, ◌/◌, ◌^◌, ◌<◌}
 use native.Mathlib.Nat.{pow-suc}
 use native.Mathlib.Omega.{arith}
-use lib.Dec.{ltb}
+use lib.Dec.{lit≤}
 use borrow.Author.Tests.{lt-ltb, le-ltb}
-use Rattle.fields.specs.Fields.{pick}
+use Rattle.std.proofs.lemmas.Fmt.{AppendsLastDigit, decimal_from_appends, length-decimal-le}
+use Rattle.std.specs.Fmt as std
 use Rattle.report.specs.Text.{digits, decimal}
 
 pub tenth : (n x : ℕ) → x < 10 ^ suc n → x / 10 < 10 ^ n
 tenth n x h = let e = pow-suc 10 n in omega (arith, h, e)
 
--- where the digits are enough, one more place changes nothing
-digits_more : (n x : ℕ) → x < 10 ^ suc n → digits (suc n) x ≡ digits (suc (suc n)) x
+-- the digits are the front's, then the last one
+last-appended : AppendsLastDigit digits
 unfolding digits
-digits_more zero x h = rw (lt-ltb x 10 (omega (arith, h)))
-digits_more (suc n) x h = ap (λ (l : List ℕ). pick (ltb x 10) [] l ++ (48 + x % 10) ∷ []) (digits_more n (x / 10) (tenth (suc n) x h))
+last-appended = record {
+  one = λ k n l. rw (lt-ltb n 10 l) (ap (λ (d : ℕ). (48 + d) ∷ []) (omega (arith, l)));
+  more = λ k n l. rw (le-ltb n 10 l);
+}
 
--- a number of 64 bits has at most 20 digits
-pub decimal-small : (x : ℕ) → x < 10 → decimal x ≡ (48 + x % 10) ∷ []
-unfolding decimal digits
-decimal-small x h = rw (lt-ltb x 10 h)
-
-pub decimal_large : (x : ℕ) → x < 2 ^ 64 → 10 ≤ x → decimal x ≡ decimal (x / 10) ++ (48 + x % 10) ∷ []
-unfolding decimal digits
-decimal_large x h l = rw (le-ltb x 10 l) (ap (λ (t : List ℕ). t ++ (48 + x % 10) ∷ []) (digits_more 18 (x / 10) (omega (arith, h))))
+-- 20 digits are enough
+pub same_decimal : (x : ℕ) → x < 2 ^ 64 → decimal x ≡ std.decimal x
+unfolding decimal
+same_decimal x h = decimal_from_appends digits last-appended 20 x h (length-decimal-le 20 x (lit≤ tt) (omega (arith, h)) h)

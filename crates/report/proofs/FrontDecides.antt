@@ -15,7 +15,7 @@ use Rattle.report.specs.Request.{kind_in, head_of, request_fault}
 use Rattle.report.specs.Report.{refused_line, report_of}
 use Rattle.report.specs.Bounds.{FrontDecides}
 use Rattle.report.proofs.RequestCases.{fault_unknown, fault_long}
-use Rattle.report.proofs.Answered.{refused-report}
+use Rattle.report.proofs.Answered.{refused_report}
 
 -- at most 17 bytes stand before a journal
 most_head : (b c : Bool) → pick b 17 (pick c 9 0) ≤ 17
@@ -48,7 +48,7 @@ is_fault k = go (eqb (head_of k) 0)
     go false e = omega (arith, e)
 
 long_report : (s : List ℕ) → 65554 ≤ length s → report_of s ≡ refused_line (long_fault (kind_in s)) 0
-long_report s h = refused-report s (long_fault (kind_in s)) (sym (long-fault s h)) (is_fault (kind_in s))
+long_report s h = refused_report s (long_fault (kind_in s)) (sym (long-fault s h)) (λ z. is_fault (kind_in s) (sym (long-fault s h) ∙ z))
 
 same_kind : (n : ℕ) (s : List ℕ) → 65554 ≤ n → kind_in (take n s) ≡ kind_in s
 unfolding kind_in

@@ -1,14 +1,17 @@
 -- Pieces of a text: one behind the other they are one piece, and all of it, from the front on, is the text laid over the buffer.
 -- Assumes nothing.
-use mathlib.Core.Path.{◌≡◌, refl, sym, ap, ap₂, subst, ◌∙◌}
+use mathlib.Core.Path.{◌≡◌, refl, sym, ap, ap₂, ◌∙◌}
 use mathlib.Core.List.{List, [], ◌∷◌, ◌++◌}
 use Prim.Native.Nat.{ℕ, suc, ◌+◌, ◌-◌, ◌≤◌, ◌<◌, min}
 use native.Mathlib.Nat.{zero-add}
+use native.Mathlib.Numerals.{add-one}
 use native.Mathlib.Omega.{arith, min_cases}
-use lib.ListN.{length, take, drop, set, length-append, drop_of_length-le, take-append-drop}
-use lib.Seq.{sets, sets-eq, length-sets, set_out, take_all, length-take-le, take-take}
+use lib.ListN.{length, take, drop, get_or, set, length-append, drop_of_length-le, take-append-drop}
+use lib.Seq.{sets, sets-eq, length-sets, set_out, take_all, take-suc, length-take-le, take-take}
 use Rattle.fields.proofs.Put.{sets_append}
-use Rattle.report.specs.Steps.{Wrote}
+use denote.Ref.{MutBor, at_last}
+use Rattle.report.specs.declared.words.Printer.{Printer}
+use Rattle.report.specs.Steps.{printer_of, printed, Prints}
 use Rattle.report.specs.Text.{over}
 
 -- past the end nothing is stored
@@ -29,35 +32,41 @@ stored-behind a b s at =
 ends_behind : (a b n at : ℕ) → at + min a (n - at) + min b (n - (at + min a (n - at))) ≡ at + min (a + b) (n - at)
 ends_behind a b n at = omega arith
 
-pub wrote_both : (a b s : List ℕ) (at r r' : ℕ) (s' s'' : List ℕ) → Wrote at a s r s' → Wrote r b s' r' s'' → Wrote at (a ++ b) s r' s''
-unfolding Wrote
-wrote_both a b s at r r' s' s'' (er, es) (er', es') = (
-  er' ∙ ap (λ (l : List ℕ). r + min (length b) (length l - r)) es ∙ ap (λ (n : ℕ). r + min (length b) (n - r)) (length-sets s at a)
-      ∙ ap (λ (p : ℕ). p + min (length b) (length s - p)) er ∙ ends_behind (length a) (length b) (length s) at
-      ∙ ap (λ (n : ℕ). at + min n (length s - at)) (sym (length-append a b)),
-  es' ∙ ap (λ (l : List ℕ). sets l r b) es ∙ ap (λ (p : ℕ). sets (sets s at a) p b) er ∙ stored-behind a b s at,
-)
+-- one text behind another is printed after it
+pub printed_both : (a b : List ℕ) (p : Printer) → printed (a ++ b) p ≡ printed b (printed a p)
+unfolding printed
+printed_both a b p =
+    let s = p.out.now in
+    let made : List ℕ → ℕ → Printer = λ l n. record { out = at_last p.out l; at = n } in
+    let places : p.at + min (length (a ++ b)) (length s - p.at) ≡ p.at + min (length a) (length s - p.at) + min (length b) (length (sets s p.at a) - (p.at + min (length a) (length s - p.at)))
+    = omega (arith, length-append a b, length-sets s p.at a) in
+    ap₂ made (sym (stored-behind a b s p.at)) places
 
-pub wrote-length : (a s : List ℕ) (at r : ℕ) (s' : List ℕ) → Wrote at a s r s' → length s' ≡ length s
-unfolding Wrote
-wrote-length a s at r s' (er, es) = ap length es ∙ length-sets s at a
+infixl 5 ◌then◌
+pub ◌then◌ : {a b : List ℕ} {p q r : Printer} → Prints a p q → Prints b q r → Prints (a ++ b) p r
+◌then◌ {a = a} {b = b} {p = p} x y = record { is = y.is ∙ ap (printed b) x.is ∙ sym (printed_both a b p) }
 
 -- the same text by another name
-pub wrote_as : (t u s : List ℕ) (at r : ℕ) (s' : List ℕ) → u ≡ t → Wrote at t s r s' → Wrote at u s r s'
-wrote_as t u s at r s' e w = subst (λ (l : List ℕ). Wrote at l s r s') (sym e) w
+pub printed_as : {t u : List ℕ} {p q : Printer} → Prints t p q → u ≡ t → Prints u p q
+printed_as {p = p} x e = record { is = x.is ∙ ap (λ (l : List ℕ). printed l p) (sym e) }
 
--- nothing, and one byte
-pub wrote_nothing : (s : List ℕ) (at : ℕ) → Wrote at [] s at s
-unfolding Wrote
-wrote_nothing s at = (omega arith, refl)
+-- nothing
+pub printed_nothing : (p : Printer) → Prints [] p p
+unfolding printed
+printed_nothing p = record { is = ap (λ (n : ℕ). record { out = p.out; at = n }) (omega arith) }
 
-pub wrote_byte : (s : List ℕ) (at x : ℕ) → at < length s → Wrote at (x ∷ []) s (at + 1) (set s at x)
-unfolding Wrote
-wrote_byte s at x h = (omega (arith, h), refl)
+-- one byte, where it fits and where it doesn't
+pub printed_byte : (p : Printer) (x : ℕ) → p.at < length p.out.now → Prints (x ∷ []) p (record { out = at_last p.out (set p.out.now p.at x); at = p.at + 1 })
+unfolding printed
+printed_byte p x h = record { is = ap (λ (n : ℕ). record { out = at_last p.out (set p.out.now p.at x); at = n }) (omega (arith, h)) }
 
-pub wrote_past : (s : List ℕ) (at x : ℕ) → length s ≤ at → Wrote at (x ∷ []) s at s
-unfolding Wrote
-wrote_past s at x h = (omega (arith, h), sym (set_out s at x h))
+pub printed_past : (p : Printer) (x : ℕ) → length p.out.now ≤ p.at → Prints (x ∷ []) p p
+unfolding printed
+printed_past p x h = record { is = ap₂ (λ (l : List ℕ) (n : ℕ). record { out = at_last p.out l; at = n }) (sym (set_out p.out.now p.at x h)) (omega (arith, h)) }
+
+-- one byte more of a text
+pub printed_more : (t : List ℕ) (i : ℕ) (p q r : Printer) → Prints (take i t) p q → Prints (get_or t i 0 ∷ []) q r → i < length t → Prints (take (i + 1) t) p r
+printed_more t i p q r x y h = printed_as (x then y) (ap (λ (n : ℕ). take n t) (add-one i) ∙ take-suc t i 0 h)
 
 -- a text laid from the front on
 whole_over : (t s : List ℕ) → length t ≤ length s → sets s 0 t ≡ over t s
@@ -87,10 +96,13 @@ cut-over t s h =
 laid-over : (t s : List ℕ) → sets s 0 t ≡ over t s
 laid-over t s = min_cases (length t) (length s) (sets s 0 t ≡ over t s) (λ h _. whole_over t s h) (λ h _. cut-over t s h)
 
--- `laid-over`, by a name that the source can cite
-pub whole_laid : (t s : List ℕ) → sets s 0 t ≡ over t s
-whole_laid t s = laid-over t s
+-- all of a text, printed from the front on: the place behind it, and the buffer's last bytes, where the printer still has the borrow that it began with
+pub printed_size : (x : MutBor (List ℕ)) (t : List ℕ) (p q : Printer) → p ≡ printer_of x → Prints t p q → q.at ≡ min (length t) (length x.now)
+unfolding printed
+printed_size x t p q e y = ap (λ (u : Printer). u.at) (y.is ∙ ap (printed t) e) ∙ omega arith
 
-pub wrote_all : (t s : List ℕ) (r : ℕ) (s' : List ℕ) → Wrote 0 t s r s' → (r ≡ min (length t) (length s)) × (s' ≡ over t s)
-unfolding Wrote
-wrote_all t s r s' (er, es) = (er ∙ omega arith, es ∙ laid-over t s)
+pub printed_all : (x : MutBor (List ℕ)) (t last : List ℕ) (p q : Printer) → p ≡ printer_of x → Prints t p q → (x.ghost_name ≡ q.out.ghost_name → last ≡ q.out.now) → last ≡ over t x.now
+unfolding printed
+printed_all x t last p q e y ends =
+    let all = y.is ∙ ap (printed t) e in
+    ends (sym (ap (λ (u : Printer). u.out.ghost_name) all)) ∙ ap (λ (u : Printer). u.out.now) all ∙ laid-over t x.now

@@ -16,40 +16,52 @@ ghost use Rattle.std.specs.Prelude.{◌≡◌, min, length, replicate};
 ghost use Rattle.index.specs.Insert.{none};
 ghost use Rattle.journal.specs.Scan.{scan_of, index_after};
 ghost use Rattle.report.specs.Report.{scan_text, report_of};
-ghost use Rattle.report.specs.Steps.{Wrote};
+ghost use Rattle.report.specs.Steps.{Prints};
 ghost use Rattle.report.specs.Text.{over};
 
-use crate::lines::{put_entries, put_first, put_refused};
+use crate::requests::Request;
+use crate::words::Printer;
+use held::within;
 use index::Entry;
-use journal::Rule;
 
 mod lines;
 mod requests;
 mod words;
 
-// A scan into an index of 1,024 entries, and its text.
-fn read_back(journal: &[u8], rule: Rule, limit: u64, out: &mut [u8]) -> usize
-    ensures { Wrote 0 (scan_text (scan_of limit rule 1024 journal.now) (index_after limit (replicate 1024 none) journal.now)) out.old result out.new }
-{
-    let entries = [Entry::default(); 1024];
-    let scanned = held::scan(journal, rule, limit, entries, 1024);
-    let found = scanned.scan;
-    let filed = scanned.entries;
-    let at = put_first(out, 0, found);
-    put_entries(out, at, filed, found.count)
+impl<'a> Printer<'a> {
+    // A scan into an index of 1,024 entries.
+    fn put_scan(&mut self, request: Request)
+        ensures { Prints (scan_text (scan_of request.entry.limit request.entry.rule 1024 request.entry.journal.now) (index_after request.entry.limit (replicate 1024 none) request.entry.journal.now)) self.old self.new }
+    {
+        let entries = [Entry::default(); 1024];
+        let scanned = held::scan(request.journal, request.rule, request.limit, entries, 1024);
+        let filed = scanned.entries;
+        match scanned.scan {
+            Ok(found) => {
+                self.put_open(found);
+                self.put_entries(&filed[..within(found.count)]);
+            }
+            Err(refusal) => self.put_refused(refusal.reason.number(), refusal.place),
+        }
+    }
+
+    // The answer to a request: what its scan comes to, or why it is refused.
+    fn put_report(&mut self, input: &[u8])
+        ensures { Prints (report_of input.now) self.old self.new }
+    {
+        match Request::parse(input) {
+            Ok(request) => self.put_scan(request),
+            Err(reason) => self.put_refused(reason.number(), 0),
+        }
+    }
 }
 
 // The text that answers a request, at the start of the buffer: how many bytes of it stand there. `over` says what the buffer holds.
-#[tactic(auto, using(crate::proofs::Answered::refused_whole, crate::proofs::Pieces::whole_laid), unfolding(crate::specs::Steps::Wrote))]
 pub fn report(input: &[u8], out: &mut [u8]) -> usize
     ensures value { result ≡ min (length (report_of input.now)) (length out.old) }
     ensures out_after { out.new ≡ over (report_of input.now) out.old }
 {
-    let fault = requests::fault_of(input);
-    if fault != 0 {
-        return put_refused(out, 0, fault, 0);
-    }
-    let rule = requests::rule_of(input);
-    let limit = requests::limit_of(input);
-    read_back(requests::journal_of(input), rule, limit, out)
+    let mut text = Printer::new(out);
+    text.put_report(input);
+    text.at
 }

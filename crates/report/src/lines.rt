@@ -1,96 +1,82 @@
 // The lines of a report.
-ghost use Rattle.std.specs.Prelude.{◌≡◌, take};
-ghost use Rattle.report.specs.Report.{cut_text, counters_text, slot_text, open_line, entry_line, entry_lines, refused_line, first_line};
-ghost use Rattle.report.specs.Steps.{Wrote};
+ghost use Rattle.report.specs.Report.{cut_text, counters_text, slot_text, open_line, entry_line, entry_lines, refused_line};
+ghost use Rattle.report.specs.Steps.{Prints};
 
-use crate::words::{put_field, put_run};
+use crate::words::Printer;
 use fields::inside::bit;
-use held::within;
 use index::Entry;
 use journal::answers::Scan;
-use journal::{Answer, Cut};
+use journal::Cut;
 
-fn put_cut(out: &mut [u8], at: usize, cut: Cut) -> usize
-    ensures { Wrote at (cut_text cut) out.old result out.new }
-{
-    match cut {
-        Cut::None => put_run(out, at, b" cut=none"),
-        Cut::Incomplete(bytes) => put_field(out, at, b" cut=incomplete:", bytes),
-        Cut::Damaged(bytes) => put_field(out, at, b" cut=damaged:", bytes),
+impl<'a> Printer<'a> {
+    #[tactic(auto, unfolding(crate::specs::Report::cut_text, crate::specs::Report::field, crate::specs::Text::letters))]
+    fn put_cut(&mut self, cut: Cut)
+        ensures { Prints (cut_text cut) self.old self.new }
+    {
+        match cut {
+            Cut::None => self.put(b" cut=none"),
+            Cut::Incomplete(bytes) => self.put_field(b" cut=incomplete:", bytes),
+            Cut::Damaged(bytes) => self.put_field(b" cut=damaged:", bytes),
+        }
     }
-}
 
-// Where the records end, what the index holds, and the counters that follow.
-fn put_counters(out: &mut [u8], at: usize, found: Scan) -> usize
-    ensures { Wrote at (counters_text found) out.old result out.new }
-{
-    let a = put_field(out, at, b"open end=", found.end);
-    let b = put_field(out, a, b" records=", found.count as u64);
-    let c = put_field(out, b, b" dead=", found.dead);
-    let d = put_field(out, c, b" sender=", found.sender);
-    let e = put_field(out, d, b" target=", found.target);
-    put_field(out, e, b" generation=", found.generation)
-}
-
-// The newest slot.
-fn put_slot(out: &mut [u8], at: usize, found: Scan) -> usize
-    ensures { Wrote at (slot_text found) out.old result out.new }
-{
-    let a = put_field(out, at, b" active=", found.active as u64);
-    let b = put_field(out, a, b" stale=", bit(found.stale));
-    let c = put_field(out, b, b" reset=", bit(found.reset));
-    let d = put_field(out, c, b" watermark=", found.watermark);
-    put_field(out, d, b" boundary=", found.boundary)
-}
-
-fn put_open(out: &mut [u8], at: usize, found: Scan) -> usize
-    ensures { Wrote at (open_line found) out.old result out.new }
-{
-    let a = put_counters(out, at, found);
-    let b = put_slot(out, a, found);
-    let cut = found.cut;
-    let c = put_cut(out, b, cut);
-    put_run(out, c, b"\n")
-}
-
-pub(crate) fn put_refused(out: &mut [u8], at: usize, number: u8, place: u64) -> usize
-    ensures { Wrote at (refused_line number place) out.old result out.new }
-{
-    let a = put_field(out, at, b"refused ", number as u64);
-    let b = put_field(out, a, b" at ", place);
-    put_run(out, b, b"\n")
-}
-
-// The first line: how the journal opens, or the refusal.
-pub(crate) fn put_first(out: &mut [u8], at: usize, found: Scan) -> usize
-    ensures { Wrote at (first_line found.answer found) out.old result out.new }
-{
-    let answer = found.answer;
-    match answer {
-        Answer::Open => put_open(out, at, found),
-        Answer::Refused { number, place } => put_refused(out, at, number, place),
+    // Where the records end, what the index holds, and the counters that follow.
+    fn put_counters(&mut self, found: Scan)
+        ensures { Prints (counters_text found) self.old self.new }
+    {
+        self.put_field(b"open end=", found.end);
+        self.put_field(b" records=", found.count as u64);
+        self.put_field(b" dead=", found.dead);
+        self.put_field(b" sender=", found.sender);
+        self.put_field(b" target=", found.target);
+        self.put_field(b" generation=", found.generation);
     }
-}
 
-fn put_entry(out: &mut [u8], at: usize, entry: Entry) -> usize
-    ensures { Wrote at (entry_line entry) out.old result out.new }
-{
-    let a = put_field(out, at, b"entry seq=", entry.number);
-    let b = put_field(out, a, b" offset=", entry.offset);
-    let c = put_field(out, b, b" body=", entry.body);
-    put_run(out, c, b"\n")
-}
-
-// The first `count` entries, a line each.
-pub(crate) fn put_entries(out: &mut [u8], at: usize, entries: [Entry; 1024], count: usize) -> usize
-    ensures { Wrote at (entry_lines (take count entries)) out.old result out.new }
-{
-    let n = within(count);
-    let mut to = at;
-    let mut i = 0;
-    while i < n {
-        to = put_entry(out, to, entries[i]);
-        i += 1;
+    // The newest slot.
+    fn put_slot(&mut self, found: Scan)
+        ensures { Prints (slot_text found) self.old self.new }
+    {
+        self.put_field(b" active=", found.active as u64);
+        self.put_field(b" stale=", bit(found.stale));
+        self.put_field(b" reset=", bit(found.reset));
+        self.put_field(b" watermark=", found.watermark);
+        self.put_field(b" boundary=", found.boundary);
     }
-    to
+
+    // The first line of an opened journal.
+    pub(crate) fn put_open(&mut self, found: Scan)
+        ensures { Prints (open_line found) self.old self.new }
+    {
+        self.put_counters(found);
+        self.put_slot(found);
+        self.put_cut(found.cut);
+        self.end_line();
+    }
+
+    pub(crate) fn put_refused(&mut self, number: u8, place: u64)
+        ensures { Prints (refused_line number place) self.old self.new }
+    {
+        self.put_field(b"refused ", number as u64);
+        self.put_field(b" at ", place);
+        self.end_line();
+    }
+
+    fn put_entry(&mut self, entry: Entry)
+        ensures { Prints (entry_line entry) self.old self.new }
+    {
+        self.put_field(b"entry seq=", entry.number);
+        self.put_field(b" offset=", entry.offset);
+        self.put_field(b" body=", entry.body);
+        self.end_line();
+    }
+
+    // A line for each entry.
+    #[tactic(auto, using(crate::proofs::Listed::lines_none, crate::proofs::Listed::lines_printed))]
+    pub(crate) fn put_entries(&mut self, entries: &[Entry])
+        ensures { Prints (entry_lines entries.now) self.old self.new }
+    {
+        for &entry in entries {
+            self.put_entry(entry);
+        }
+    }
 }

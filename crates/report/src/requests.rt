@@ -1,82 +1,54 @@
-// A request, taken apart: the kind, what its kind asks for, and the journal behind it.
-ghost use Rattle.std.specs.Prelude.{◌≡◌};
-ghost use Rattle.report.specs.Request.{kind_in, head_of, rule_in, limit_in, journal_in, request_fault};
+// A request, taken apart: the rule and the body limit that it asks for, and the journal behind them.
+ghost use Rattle.std.specs.Prelude.{◌≡◌, ◌<◌, length, MatchResult};
+ghost use Rattle.refusals.specs.declared.Reason.TheVariants.{LongJournal};
+ghost use Rattle.report.specs.Steps.{Asks, Made, Refuses};
 
 use fields::inside::u64_at;
 use journal::Rule;
+use refusals::Reason;
 
-fn kind_of(input: &[u8]) -> u8
-    ensures { result ≡ kind_in input.now }
-{
-    if input.len() == 0 {
-        return 0;
-    }
-    input[0]
+#[derive(Clone, Copy)]
+pub(crate) struct Request<'a> {
+    pub(crate) rule: Rule,
+    pub(crate) limit: u64,
+    pub(crate) journal: &'a [u8],
 }
 
-fn head_of(kind: u8) -> usize
-    ensures { result ≡ head_of kind }
-{
-    if kind == 1 {
-        return 17;
+impl<'a> Request<'a> {
+    // The kind is the first byte: 1, Tail, has N and the body limit behind it; 2, Anywhere, and 3, Salvage, the body limit.
+    // 28, a kind that is unknown or an input shorter than its kind asks, comes before 29, a journal above 65,536 bytes.
+    pub(crate) fn parse(input: &'a [u8]) -> Result<Request<'a>, Reason>
+        ensures { MatchResult result (λ r. Asks input.now r) (λ e. Refuses input.now e) }
+    {
+        match input.first().copied() {
+            Some(1) if 17 <= input.len() => {
+                let records = u64_at(input, 1);
+                Request::of(Rule::Tail { records }, u64_at(input, 9), &input[17..])
+            }
+            Some(2) if 9 <= input.len() => Request::of(
+                Rule::Anywhere,
+                u64_at(input, 1),
+                &input[9..],
+            ),
+            Some(3) if 9 <= input.len() => Request::of(
+                Rule::Salvage,
+                u64_at(input, 1),
+                &input[9..],
+            ),
+            _ => Err(Reason::Unknown),
+        }
     }
-    if kind == 2 {
-        return 9;
-    }
-    if kind == 3 {
-        return 9;
-    }
-    0
-}
 
-// 28 or 29, or 0 where neither is so.
-#[tactic(auto, using(crate::proofs::RequestCases::fault_unknown, crate::proofs::RequestCases::fault_short, crate::proofs::RequestCases::fault_long, crate::proofs::RequestCases::fault_none))]
-pub(crate) fn fault_of(input: &[u8]) -> u8
-    ensures { result ≡ request_fault input.now }
-{
-    let head = head_of(kind_of(input));
-    if head == 0 {
-        return 28;
+    fn of(rule: Rule, limit: u64, journal: &'a [u8]) -> Result<Request<'a>, Reason>
+        ensures { MatchResult result (λ r. Made rule limit journal.now r) (λ e. (e ≡ LongJournal) × (65536 < length journal.now)) }
+    {
+        if 65536 < journal.len() {
+            return Err(Reason::LongJournal);
+        }
+        Ok(Request {
+            rule,
+            limit,
+            journal,
+        })
     }
-    if input.len() < head {
-        return 28;
-    }
-    if 65536 < input.len() - head {
-        return 29;
-    }
-    0
-}
-
-pub(crate) fn rule_of(input: &[u8]) -> Rule
-    requires { request_fault input.now ≡ 0 }
-    ensures { result ≡ rule_in input.now }
-{
-    let kind = kind_of(input);
-    if kind == 1 {
-        return Rule::Tail {
-            records: u64_at(input, 1),
-        };
-    }
-    if kind == 2 {
-        return Rule::Anywhere;
-    }
-    Rule::Salvage
-}
-
-pub(crate) fn limit_of(input: &[u8]) -> u64
-    requires { request_fault input.now ≡ 0 }
-    ensures { result ≡ limit_in input.now }
-{
-    if kind_of(input) == 1 {
-        return u64_at(input, 9);
-    }
-    u64_at(input, 1)
-}
-
-pub(crate) fn journal_of(input: &[u8]) -> &[u8]
-    requires { request_fault input.now ≡ 0 }
-    ensures { result.now ≡ journal_in input.now }
-{
-    let head = head_of(kind_of(input));
-    &input[head..]
 }

@@ -1,46 +1,65 @@
-// Text, written piece by piece into a lent buffer. Each piece goes where the one before ended; what the buffer doesn't hold is left out.
-ghost use Rattle.std.specs.Prelude.{[], ◌∷◌, ◌++◌};
-ghost use Rattle.report.specs.Steps.{Wrote};
-ghost use Rattle.report.specs.Text.{decimal};
+// Text, printed piece by piece into a lent buffer. Each piece goes where the one before ended; what the buffer doesn't hold is left out.
+ghost use Rattle.std.specs.Prelude.{◌≡◌, [], ◌∷◌, ◌++◌};
+ghost use Rattle.report.specs.Steps.{printer_of, Prints};
+ghost use Rattle.report.specs.Text.{decimal, letters};
 
-pub(crate) fn put_byte(out: &mut [u8], at: usize, byte: u8) -> usize
-    ensures { Wrote at (byte ∷ []) out.old result out.new }
-{
-    if at < out.len() {
-        out[at] = byte;
-        return at + 1;
-    }
-    at
+use itoa::Buffer;
+
+// The buffer, and where the next piece goes.
+#[derive(Drop)]
+pub(crate) struct Printer<'a> {
+    pub(crate) out: &'a mut [u8],
+    pub(crate) at: usize,
 }
 
-pub(crate) fn put_run(out: &mut [u8], at: usize, text: &[u8]) -> usize
-    ensures { Wrote at text.now out.old result out.new }
-{
-    let mut to = at;
-    let mut i = 0;
-    while i < text.len() {
-        to = put_byte(out, to, text[i]);
-        i += 1;
+impl<'a> Printer<'a> {
+    // Starts at the front.
+    pub(crate) fn new(out: &'a mut [u8]) -> Printer<'a>
+        ensures { result ≡ printer_of out.entry }
+    {
+        Printer { out, at: 0 }
     }
-    to
-}
 
-// In decimal: the digits before the last one, then the last one.
-pub(crate) fn put_number(out: &mut [u8], at: usize, x: u64) -> usize
-    ensures { Wrote at (decimal x) out.old result out.new }
-{
-    let last = 48 + (x % 10) as u8;
-    if x < 10 {
-        return put_byte(out, at, last);
+    #[tactic(auto, using(crate::proofs::Pieces::printed_byte, crate::proofs::Pieces::printed_past))]
+    pub(crate) fn put_byte(&mut self, byte: u8)
+        ensures { Prints (byte ∷ []) self.old self.new }
+    {
+        if self.at < self.out.len() {
+            self.out[self.at] = byte;
+            self.at += 1;
+        }
     }
-    let to = put_number(out, at, x / 10);
-    put_byte(out, to, last)
-}
 
-// A name, and a number behind it.
-pub(crate) fn put_field(out: &mut [u8], at: usize, name: &[u8], x: u64) -> usize
-    ensures { Wrote at (name.now ++ decimal x) out.old result out.new }
-{
-    let to = put_run(out, at, name);
-    put_number(out, to, x)
+    #[tactic(auto, using(crate::proofs::Pieces::printed_nothing))]
+    pub(crate) fn put(&mut self, text: &[u8])
+        ensures { Prints text.now self.old self.new }
+    {
+        for &byte in text {
+            self.put_byte(byte);
+        }
+    }
+
+    // In decimal.
+    #[tactic(auto, using(crate::proofs::Decimals::same_decimal))]
+    pub(crate) fn put_number(&mut self, x: u64)
+        ensures { Prints (decimal x) self.old self.new }
+    {
+        let mut digits = Buffer::new();
+        self.put(digits.format(x).as_bytes());
+    }
+
+    // A name, and a number behind it.
+    pub(crate) fn put_field(&mut self, name: &[u8], x: u64)
+        ensures { Prints (name.now ++ decimal x) self.old self.new }
+    {
+        self.put(name);
+        self.put_number(x);
+    }
+
+    #[tactic(auto, unfolding(crate::specs::Text::letters))]
+    pub(crate) fn end_line(&mut self)
+        ensures { Prints (letters "\n") self.old self.new }
+    {
+        self.put(b"\n");
+    }
 }

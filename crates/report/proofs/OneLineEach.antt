@@ -2,6 +2,10 @@
 -- it counts (`lines_told`): no name and no number has a newline in it.
 -- Assumes nothing.
 use Rattle.std.specs.Prelude.{Result, Ok, Err}
+use Rattle.prefix.specs.Slots.{position_number}
+use Rattle.index.specs.Insert.{none as no_entry}
+use Rattle.journal.specs.Scan.{scan_of, index_after}
+use lib.ListN.{replicate}
 use Rattle.refusals.specs.declared.Refusal.{Refusal}
 use Rattle.refusals.specs.Refusals.{number_in}
 use mathlib.Core.Path.{◌≡◌, refl, sym, ap, ◌∙◌}
@@ -19,7 +23,7 @@ use Rattle.journal.specs.declared.Cut.{Cut}
 use Rattle.journal.specs.declared.Cut.TheVariants.{None, Incomplete, Damaged}
 use Rattle.journal.specs.declared.answers.Scan.{Scan}
 use Rattle.report.specs.Text.{letters, decimal}
-use Rattle.report.specs.Request.{request_fault}
+use Rattle.report.specs.Request.{limit_in, rule_in, journal_in, request_fault}
 use Rattle.report.specs.Report.{field, cut_text, counters_text, slot_text, open_line, entry_line, entry_lines, refused_line, scan_text, scanned_text, report_of}
 use Rattle.report.proofs.Spelt.{Digits, none, then, decimal-digits}
 
@@ -71,7 +75,7 @@ counters_plain s =
 slot-plain : (s : Scan) → Counts (slot_text s) 0
 unfolding slot_text letters newlines
 slot-plain s =
-    named " active=" s.active refl also named " stale=" (bit_of s.stale) refl also named " reset=" (bit_of s.reset) refl
+    named " active=" (position_number s.active) refl also named " stale=" (bit_of s.stale) refl also named " reset=" (bit_of s.reset) refl
     also named " watermark=" s.watermark refl also named " boundary=" s.boundary refl
 
 -- ---- a line has one
@@ -148,5 +152,5 @@ unfolding report_of scanned_text
 ends_line i = go (eqb (request_fault i) 0)
   where
     go : (b : Bool) → EndsLine (pick b (scanned_text i) (refused_line (request_fault i) 0))
-    go true = scan_ends (scan_of (limit_in i) (rule_in i) 1024 (journal_in i)) (index_after (limit_in i) (replicate 1024 none) (journal_in i))
+    go true = scan_ends (scan_of (limit_in i) (rule_in i) 1024 (journal_in i)) (index_after (limit_in i) (replicate 1024 no_entry) (journal_in i))
     go false = refused_ends (request_fault i) 0

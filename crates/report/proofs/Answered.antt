@@ -1,9 +1,9 @@
 -- What a request's report is, by its own refusal, and by what the scan of its journal comes to.
 -- Assumes nothing.
 use mathlib.Core.Path.{◌≡◌, sym, ap, ◌∙◌}
-use mathlib.Core.List.{List, ◌++◌}
+use mathlib.Core.List.{List}
 use Prim.Native.Nat.{ℕ}
-use lib.ListN.{take, replicate, length-replicate}
+use lib.ListN.{replicate, length-replicate}
 use lib.Dec.{lit≤}
 use borrow.Author.Tests.{eq-eqb, ne_eqb}
 use Rattle.index.specs.Insert.{none}

@@ -5,8 +5,10 @@ use crate::indexes;
 use fields::Cursor;
 use index::Entry;
 use journal::Rule;
-use journal::answers::{Scan, cut_of, dropped_of, number_of, place_of};
+use journal::answers::{Reread, Scan};
 use prefix::Header;
+use record::MsgType;
+use refusals::Refusal;
 
 // The rule that a request names.
 fn rule_at(request: &[u8]) -> Rule {
@@ -42,15 +44,14 @@ fn put_slots(out: &mut [u8], c: Cursor, slots: [u8; 104]) -> Cursor {
     fields::put_run(out, c, &slots)
 }
 
-// The answer up to the cut.
+// The answer of an opened journal, up to the cut.
 fn put_front(out: &mut [u8], scan: Scan) -> Cursor {
-    let answer = scan.answer;
     let header = scan.header;
     let slots = scan.slots;
-    let c = framed::begin(out, small(number_of(answer)), place_of(answer));
+    let c = framed::begin(out, 0, 0);
     let c1 = put_header(out, c, header);
     let c2 = put_slots(out, c1, slots);
-    let c3 = fields::put_u8(out, c2, scan.active);
+    let c3 = fields::put_u8(out, c2, scan.active as u8);
     let c4 = fields::put_u64(out, c3, scan.count as u64);
     fields::put_u64(out, c4, scan.end)
 }
@@ -66,11 +67,24 @@ fn put_next(out: &mut [u8], c: Cursor, scan: Scan) -> Cursor {
 
 // The answer from the cut on, up to the index.
 fn put_back(out: &mut [u8], c: Cursor, scan: Scan) -> Cursor {
-    let cut = scan.cut;
-    let c1 = fields::put_u8(out, c, small(cut_of(cut)));
-    let c2 = fields::put_u64(out, c1, dropped_of(cut));
+    let c1 = fields::put_u8(out, c, small(scan.cut.kind()));
+    let c2 = fields::put_u64(out, c1, scan.cut.dropped());
     let c3 = fields::put_u64(out, c2, scan.dead);
     put_next(out, c3, scan)
+}
+
+// The answer up to the index; a refusal has zeros behind its number and place.
+fn put_answer(out: &mut [u8], answer: Result<Scan, Refusal>) -> Cursor {
+    match answer {
+        Ok(scan) => {
+            let c = put_front(out, scan);
+            put_back(out, c, scan)
+        }
+        Err(refusal) => {
+            let c = framed::begin(out, refusal.reason.number(), refusal.place);
+            fields::put_run(out, c, &[0; 208])
+        }
+    }
 }
 
 // The answer to a scan of the journal, which is a part of the request.
@@ -85,11 +99,9 @@ fn scan_in(request: &[u8], room: usize, journal: &[u8], out: &mut [u8]) -> usize
         entries,
         room,
     );
-    let scan = scanned.scan;
     let left = scanned.entries;
-    let c = put_front(out, scan);
-    let c1 = put_back(out, c, scan);
-    let end = indexes::put_index(out, c1, left, room);
+    let c = put_answer(out, scanned.scan);
+    let end = indexes::put_index(out, c, left, room);
     end.at
 }
 
@@ -121,10 +133,8 @@ pub(crate) fn scan(request: &[u8], out: &mut [u8]) -> usize {
     )
 }
 
-// The answer to a re-read of an entry, by the number that is asked for.
-fn reread_in(journal: &[u8], entry: Entry, number: u64, out: &mut [u8]) -> usize {
-    let read = journal::reread(journal, entry, number);
-    let frame = journal::frame_of(journal, read);
+// A message with its frame, behind a number and a place.
+fn put_message(out: &mut [u8], number: u8, place: u64, read: Reread, frame: &[u8]) -> usize {
     if out.len() < 30 {
         return 0;
     }
@@ -132,11 +142,32 @@ fn reread_in(journal: &[u8], entry: Entry, number: u64, out: &mut [u8]) -> usize
         return 0;
     }
     let code = read.code;
-    let c = framed::begin(out, read.number, read.place);
+    let c = framed::begin(out, number, place);
     let c1 = framed::put_code(out, c, code);
     let c2 = fields::put_u64(out, c1, read.frame);
     let end = framed::put_run(out, c2, frame);
     end.at
+}
+
+// The answer to a re-read of an entry, by the number that is asked for; a refusal has no code and no frame.
+fn reread_in(journal: &[u8], entry: Entry, number: u64, out: &mut [u8]) -> usize {
+    match journal::reread(journal, entry, number) {
+        Ok(read) => {
+            let frame = journal::frame_of(journal, read);
+            put_message(out, 0, 0, read, frame)
+        }
+        Err(refusal) => {
+            let none = Reread {
+                code: MsgType {
+                    bytes: [0; 8],
+                    len: 0,
+                },
+                frame: 0,
+                length: 0,
+            };
+            put_message(out, refusal.reason.number(), refusal.place, none, &journal[..0])
+        }
+    }
 }
 
 // Operation 12: an entry, a message number and a journal, from which the message is read again.

@@ -1,11 +1,11 @@
 -- The edges of the scope that are marked P: one table under one theorem, computed from the definitions.
 -- Assumes nothing.
-use Rattle.std.specs.Prelude.{ℕ, ◌-◌, ◌^◌, ◌≡◌, refl, Bool, true, false, [], ◌∷◌, ◌++◌, length, take, replicate}
+use Rattle.std.specs.Prelude.{ℕ, ◌-◌, ◌^◌, ◌≡◌, refl, Bool, true, false, [], ◌∷◌, ◌++◌, length, take, replicate, Ok, Err}
 use Rattle.crc32.specs.Crc.{crc_from, crc_of}
 use Rattle.fields.specs.Fields.{le_bytes}
-use Rattle.prefix.specs.declared.Newest.TheVariants.{Zero}
-use Rattle.prefix.specs.declared.FreshNext.TheVariants.{Next, Exhausted}
-use Rattle.prefix.specs.Slots.{newest_fault, one_on, fresh_slots, fresh_next}
+use Rattle.refusals.specs.Refusals.{refusal}
+use Rattle.prefix.specs.declared.Position.TheVariants.{First}
+use Rattle.prefix.specs.Slots.{newest_at, newest_fault, one_on, fresh_slots, fresh_next}
 use Rattle.record.specs.declared.Kind.TheVariants.{Plain, Counter}
 use Rattle.record.specs.Write.{body_front, body_bytes, record_bytes}
 use Rattle.journal.specs.declared.Rule.TheVariants.{Tail, Anywhere, Salvage}
@@ -58,12 +58,12 @@ edges :
     × (says (Tail 1) (at12287 ++ wrong_crc ++ replicate 5 0) ≡ opens 0 12288 (Damaged 32) false)
     × (says (Tail 1) (at12287 ++ wrong_crc ++ 0 ∷ 1 ∷ []) ≡ refuses 12 12288))
     -- fresh slots from 2^64-3 stand; from 2^64-2: 15
-    × ((fresh_next (2 ^ 64 - 3) ≡ Next (2 ^ 64 - 1))
+    × ((fresh_next (2 ^ 64 - 3) ≡ Ok (2 ^ 64 - 1))
     × (fresh_slots (slot (2 ^ 64 - 3) 12288) ≡ image_last3 ∷ image_last2 ∷ [])
-    × (fresh_next (2 ^ 64 - 2) ≡ Exhausted 15 0)
+    × (fresh_next (2 ^ 64 - 2) ≡ Err (refusal 15 0))
     × (fresh_slots (slot (2 ^ 64 - 2) 12288) ≡ replicate 52 0 ∷ replicate 52 0 ∷ []))
     -- equal slots choose 0
-    × (newest image4 image4 ≡ Zero (slot 4 12288))
+    × (newest image4 image4 ≡ newest_at First (slot 4 12288))
     -- one field changed: 9
     × ((against 7 9 12288 0 false ≡ 0)
     × (against 8 9 12288 0 false ≡ 9)

@@ -1,4 +1,5 @@
 pub mod Samples
+pub mod Refusals
 pub mod Edges
 pub mod Prefixes
 pub mod Records

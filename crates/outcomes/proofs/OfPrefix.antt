@@ -23,15 +23,6 @@ decode_slot = answers value _ (λ κs a. (tt, tt)) (λ κs a ws. refl)
 pub find_newest : {M : Type 1} → OneOutcome M prefix.find_newest.ended (λ 𝓤. prefix.find_newest.clauses) (λ 𝓤. prefix.find_newest.spec) whole
 find_newest = answers value _ (λ κs a. (tt, (tt, tt))) (λ κs a ws. refl)
 
-pub newest_number : {M : Type 1} → OneOutcome M prefix.newest_number.ended (λ 𝓤. prefix.newest_number.clauses) (λ 𝓤. prefix.newest_number.spec) whole
-newest_number = answers value _ (λ κs a. (tt, tt)) (λ κs a ws. refl)
-
-pub newest_place : {M : Type 1} → OneOutcome M prefix.newest_place.ended (λ 𝓤. prefix.newest_place.clauses) (λ 𝓤. prefix.newest_place.spec) whole
-newest_place = answers value _ (λ κs a. (tt, tt)) (λ κs a ws. refl)
-
-pub newest_position : {M : Type 1} → OneOutcome M prefix.newest_position.ended (λ 𝓤. prefix.newest_position.clauses) (λ 𝓤. prefix.newest_position.spec) whole
-newest_position = answers value _ (λ κs a. (tt, tt)) (λ κs a ws. refl)
-
 pub newest_slot : {M : Type 1} → OneOutcome M prefix.newest_slot.ended (λ 𝓤. prefix.newest_slot.clauses) (λ 𝓤. prefix.newest_slot.spec) (content (λ κs r. r))
 newest_slot = answers (part (λ κs r. r) (λ κs x. x) (λ κs x. refl)) _ (λ κs a. (tt, (tt, tt))) (λ κs a ws. refl)
 

@@ -2,7 +2,8 @@
 // or 0 for a request that isn't one.
 use crate::records;
 use fields::Cursor;
-use prefix::{FreshNext, Header, HeaderRead, Newest, PrefixWritten, Slot, SlotRead};
+use prefix::{Header, Slot};
+use refusals::Refusal;
 
 pub fn length_of(head: [u8; 4]) -> usize {
     framed::u32_at(&head, 0) as usize
@@ -49,7 +50,7 @@ fn header(request: &[u8], out: &mut [u8]) -> usize {
         return 0;
     }
     match prefix::decode_header(fields::run(request, bytes.start, bytes.len)) {
-        HeaderRead::Sound(h) => {
+        Ok(h) => {
             let c = framed::begin(out, 0, 0);
             let c1 = fields::put_u64(out, c, h.seconds);
             let c2 = fields::put_u32(out, c1, h.nanoseconds);
@@ -57,8 +58,8 @@ fn header(request: &[u8], out: &mut [u8]) -> usize {
             let end = fields::put_u64(out, c3, h.target);
             end.at
         }
-        HeaderRead::Refused { number, place } => {
-            let c = framed::begin(out, number, place);
+        Err(refusal) => {
+            let c = framed::begin(out, refusal.reason.number(), refusal.place);
             let end = fields::put_run(out, c, &[0; 28]);
             end.at
         }
@@ -72,39 +73,16 @@ fn slot(request: &[u8], out: &mut [u8]) -> usize {
     }
     let c = framed::begin(out, 0, 0);
     match prefix::decode_slot(fields::run(request, bytes.start, bytes.len)) {
-        SlotRead::Sound(s) => {
+        Some(s) => {
             let c1 = fields::put_u8(out, c, 1);
             let end = framed::put_slot(out, c1, s);
             end.at
         }
-        SlotRead::Unsound => {
+        None => {
             let end = fields::put_run(out, c, &[0; 42]);
             end.at
         }
     }
-}
-
-fn chosen(out: &mut [u8], choice: Newest, s: Slot, image: &[u8]) -> usize {
-    let c = framed::begin(
-        out,
-        prefix::newest_number(choice),
-        prefix::newest_place(choice),
-    );
-    let c1 = fields::put_u8(out, c, prefix::newest_position(choice));
-    let c2 = framed::put_slot(out, c1, s);
-    let end = framed::put_run(out, c2, image);
-    end.at
-}
-
-fn not_chosen(out: &mut [u8], choice: Newest, image: &[u8]) -> usize {
-    let c = framed::begin(
-        out,
-        prefix::newest_number(choice),
-        prefix::newest_place(choice),
-    );
-    let c1 = fields::put_run(out, c, &[0; 42]);
-    let end = framed::put_run(out, c1, image);
-    end.at
 }
 
 fn newest(request: &[u8], out: &mut [u8]) -> usize {
@@ -116,12 +94,20 @@ fn newest(request: &[u8], out: &mut [u8]) -> usize {
     let zero = fields::run(request, a.start, a.len);
     let one = fields::run(request, b.start, b.len);
     let image = prefix::newest_slot(zero, one);
-    let choice = prefix::find_newest(zero, one);
-    match choice {
-        Newest::Zero(s) => chosen(out, choice, s, image),
-        Newest::One(s) => chosen(out, choice, s, image),
-        Newest::NoneSound => not_chosen(out, choice, image),
-        Newest::Differ => not_chosen(out, choice, image),
+    match prefix::find_newest(zero, one) {
+        Ok(newest) => {
+            let c = framed::begin(out, 0, 0);
+            let c1 = fields::put_u8(out, c, newest.position as u8);
+            let c2 = framed::put_slot(out, c1, newest.slot);
+            let end = framed::put_run(out, c2, image);
+            end.at
+        }
+        Err(refusal) => {
+            let c = framed::begin(out, refusal.reason.number(), refusal.place);
+            let c1 = fields::put_run(out, c, &[0; 42]);
+            let end = framed::put_run(out, c1, image);
+            end.at
+        }
     }
 }
 
@@ -145,13 +131,13 @@ fn slots(request: &[u8], out: &mut [u8]) -> usize {
     };
     let images = prefix::fresh_slots(slot);
     match prefix::fresh_next(slot.generation) {
-        FreshNext::Next(next) => {
+        Ok(next) => {
             let c = framed::begin(out, 0, 0);
             let c1 = fields::put_u64(out, c, next);
             put_images(out, c1, images)
         }
-        FreshNext::Exhausted { number, place } => {
-            let c = framed::begin(out, number, place);
+        Err(refusal) => {
+            let c = framed::begin(out, refusal.reason.number(), refusal.place);
             let c1 = fields::put_u64(out, c, 0);
             put_images(out, c1, images)
         }
@@ -159,12 +145,17 @@ fn slots(request: &[u8], out: &mut [u8]) -> usize {
 }
 
 // The output's bytes stand behind the answer's head, 21 bytes, and are written there.
-fn write_prefix(out: &mut [u8], n: usize, h: Header, images: [[u8; 52]; 2]) -> PrefixWritten {
+fn write_prefix(
+    out: &mut [u8],
+    n: usize,
+    h: Header,
+    images: [[u8; 52]; 2],
+) -> Result<usize, Refusal> {
     if out.len() < 21 {
-        return PrefixWritten::Written(0);
+        return Ok(0);
     }
     if out.len() - 21 < n {
-        return PrefixWritten::Written(0);
+        return Ok(0);
     }
     let end = 21 + n;
     prefix::encode_prefix(&mut out[21..end], h, images)
@@ -188,13 +179,13 @@ fn prefix(request: &[u8], out: &mut [u8]) -> usize {
         fields::run(request, lent.start, lent.len),
     );
     match write_prefix(out, lent.len, h, images) {
-        PrefixWritten::Written(length) => {
+        Ok(length) => {
             let c = framed::begin(out, 0, 0);
             let c1 = fields::put_u64(out, c, length as u64);
             fields::put_u32(out, c1, (lent.len % 4294967296) as u32);
         }
-        PrefixWritten::NotWritten { number, place } => {
-            let c = framed::begin(out, number, place);
+        Err(refusal) => {
+            let c = framed::begin(out, refusal.reason.number(), refusal.place);
             let c1 = fields::put_u64(out, c, 0);
             fields::put_u32(out, c1, (lent.len % 4294967296) as u32);
         }

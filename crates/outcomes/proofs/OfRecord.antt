@@ -28,6 +28,3 @@ decode_body = answers value _ (λ κs a. (tt, tt)) (λ κs a ws. refl)
 
 pub seen_at : {M : Type 1} → OneOutcome M records.seen_at.ended (λ 𝓤. records.seen_at.clauses) (λ 𝓤. records.seen_at.spec) whole
 seen_at = answers value _ (λ κs a. (tt, (tt, (tt, tt)))) (λ κs a ws. refl)
-
-pub code_of : {M : Type 1} → OneOutcome M records.code_of.ended (λ 𝓤. records.code_of.clauses) (λ 𝓤. records.code_of.spec) whole
-code_of = answers value _ (λ κs a. (tt, tt)) (λ κs a ws. refl)

@@ -5,33 +5,15 @@
 #![tactic(auto)]
 
 use fields::Cursor;
-use record::{Kind, MsgType, Record, RecordSealed, RecordWritten, Row, Seen};
+use record::{Kind, MsgType, Record, Row};
 use std::io;
 
-fn text(rt: &impl Print, s: &[u8]) -> io::Result<()> {
-    rt.write_all(s)
-}
-
-fn number(rt: &impl Print, x: u64) -> io::Result<()> {
-    print!(rt; " {x}")
-}
-
 fn bytes(rt: &impl Print, s: &[u8]) -> io::Result<()> {
-    let mut i = 0;
-    text(rt, b" ")?;
-    while i < s.len() {
-        let b = s[i];
+    print!(rt; " ")?;
+    for b in s {
         print!(rt; "{b:02x}")?;
-        i += 1;
     }
     Ok(())
-}
-
-fn refused(rt: &impl Print, x: u8, place: u64) -> io::Result<()> {
-    text(rt, b" refused")?;
-    number(rt, x as u64)?;
-    text(rt, b" at")?;
-    number(rt, place)
 }
 
 // The code `D`, `D2345678`, or `D2345678` with a length that no code has.
@@ -59,39 +41,33 @@ fn write(
     limit: u64,
     out: &mut [u8],
 ) -> io::Result<()> {
-    number(rt, c.len as u64)?;
-    number(rt, frame.len() as u64)?;
-    number(rt, limit)?;
-    number(rt, out.len() as u64)?;
+    print!(rt; " {} {} {limit} {}", c.len, frame.len(), out.len())?;
     match record::encode_frame_record(out, kind, 2, c, frame, limit) {
-        RecordWritten::Written(n) => {
-            text(rt, b" written")?;
-            number(rt, n as u64)?;
-        }
-        RecordWritten::NotWritten { number: x, place } => refused(rt, x, place)?,
+        Ok(n) => print!(rt; " written {n}")?,
+        Err(refusal) => print!(rt; " {refusal}")?,
     }
     bytes(rt, out)?;
-    text(rt, b"\n")
+    print!(rt; "\n")
 }
 
 // Kind 1, into 30 bytes of 255.
 fn plain(rt: &impl Print, c: MsgType, frame: &[u8], limit: u64) -> io::Result<()> {
     let mut out = [255u8; 30];
-    text(rt, b"plain")?;
+    print!(rt; "plain")?;
     write(rt, Kind::Plain, c, frame, limit, &mut out)
 }
 
 // The same, into 26 bytes.
 fn narrow(rt: &impl Print, c: MsgType, frame: &[u8], limit: u64) -> io::Result<()> {
     let mut out = [255u8; 26];
-    text(rt, b"plain")?;
+    print!(rt; "plain")?;
     write(rt, Kind::Plain, c, frame, limit, &mut out)
 }
 
 // Kind 5 with next sender 9, into 43 bytes.
 fn counter(rt: &impl Print, c: MsgType, frame: &[u8], limit: u64) -> io::Result<()> {
     let mut out = [255u8; 43];
-    text(rt, b"counter")?;
+    print!(rt; "counter")?;
     write(rt, Kind::Counter { sender: 9 }, c, frame, limit, &mut out)
 }
 
@@ -118,14 +94,14 @@ fn written(rt: &impl Print) -> io::Result<()> {
 
 // So many bytes of 5, sealed with generation 7. Of 28, kind 5 is a byte short of room for a generation.
 fn seal(rt: &impl Print, out: &mut [u8]) -> io::Result<()> {
-    text(rt, b"seal")?;
+    print!(rt; "seal")?;
     bytes(rt, out)?;
     match record::seal_frame_record(out, 7) {
-        RecordSealed::Sealed => text(rt, b" sealed")?,
-        RecordSealed::NotSealed { number: x, place } => refused(rt, x, place)?,
+        Ok(()) => print!(rt; " sealed")?,
+        Err(refusal) => print!(rt; " {refusal}")?,
     }
     bytes(rt, out)?;
-    text(rt, b"\n")
+    print!(rt; "\n")
 }
 
 fn seals(rt: &impl Print) -> io::Result<()> {
@@ -140,49 +116,42 @@ fn seals(rt: &impl Print) -> io::Result<()> {
 }
 
 fn found(rt: &impl Print, r: Record) -> io::Result<()> {
-    text(rt, b" sound")?;
-    number(rt, r.place)?;
-    number(rt, r.body)?;
-    number(rt, r.kind as u64)?;
-    number(rt, r.number)?;
-    number(rt, r.generation)?;
-    number(rt, r.sender)?;
-    let c = record::code_of(r);
-    let letters = c.bytes;
-    bytes(rt, &letters)?;
-    number(rt, c.len as u64)?;
-    number(rt, r.frame)
+    print!(rt;
+        " sound {} {} {} {}",
+        r.place, r.body, r.kind as u8, r.number
+    )?;
+    print!(rt; " {} {}", r.generation, r.sender)?;
+    bytes(rt, &r.code.bytes)?;
+    print!(rt; " {} {}", r.code.len, r.frame)
 }
 
 fn row(rt: &impl Print, row: Row) -> io::Result<()> {
     match row {
-        Row::Under12 => text(rt, b" under 12"),
-        Row::ComplementWrong => text(rt, b" complement"),
-        Row::LengthWrong => text(rt, b" length"),
-        Row::NotWhole => text(rt, b" not whole"),
-        Row::CrcWrong => text(rt, b" CRC"),
-        Row::BodyUnread => text(rt, b" body"),
+        Row::Under12 => print!(rt; " under 12"),
+        Row::ComplementWrong => print!(rt; " complement"),
+        Row::LengthWrong => print!(rt; " length"),
+        Row::NotWhole => print!(rt; " not whole"),
+        Row::CrcWrong => print!(rt; " CRC"),
+        Row::BodyUnread => print!(rt; " body"),
     }
 }
 
 fn look(rt: &impl Print, s: &[u8], at: usize, limit: u64) -> io::Result<()> {
-    text(rt, b"look")?;
-    number(rt, at as u64)?;
-    number(rt, limit)?;
+    print!(rt; "look {at} {limit}")?;
     bytes(rt, s)?;
     match record::seen_at(s, at, limit) {
-        Seen::Sound(r) => found(rt, r)?,
-        Seen::Fault(r) => row(rt, r)?,
+        Ok(r) => found(rt, r)?,
+        Err(fault) => row(rt, fault)?,
     }
-    text(rt, b"\n")
+    print!(rt; "\n")
 }
 
 // Number 2, kind 5, generation 7, sender 9.
 fn filed() -> [u8; 43] {
     let mut w = [0u8; 43];
     let kind = Kind::Counter { sender: 9 };
-    record::encode_frame_record(&mut w, kind, 2, code(1), b"8=FI", 4);
-    record::seal_frame_record(&mut w, 7);
+    let _ = record::encode_frame_record(&mut w, kind, 2, code(1), b"8=FI", 4);
+    let _ = record::seal_frame_record(&mut w, 7);
     w
 }
 
@@ -235,7 +204,7 @@ fn unread(rt: &impl Print) -> io::Result<()> {
     look_placed(rt, none)?;
     let mut kind = filed();
     kind[12] = 4;
-    record::seal_frame_record(&mut kind, 7);
+    let _ = record::seal_frame_record(&mut kind, 7);
     look_placed(rt, kind)
 }
 

@@ -1,6 +1,7 @@
 // The operations on records.
 use fields::Cursor;
-use record::{Body, Kind, Record, RecordSealed, RecordWritten, Row, Seen};
+use record::{Body, Kind, Record, Row};
+use refusals::Refusal;
 
 // The kind that a request names.
 fn kind_at(request: &[u8]) -> Kind {
@@ -14,12 +15,12 @@ fn kind_at(request: &[u8]) -> Kind {
 }
 
 // The output's bytes stand behind the answer's head, 21 bytes, and are written there.
-fn write(out: &mut [u8], n: usize, request: &[u8], frame: &[u8]) -> RecordWritten {
+fn write(out: &mut [u8], n: usize, request: &[u8], frame: &[u8]) -> Result<usize, Refusal> {
     if out.len() < 21 {
-        return RecordWritten::Written(0);
+        return Ok(0);
     }
     if out.len() - 21 < n {
-        return RecordWritten::Written(0);
+        return Ok(0);
     }
     let end = 21 + n;
     let code = framed::code_at(request, 18, 26);
@@ -57,19 +58,19 @@ pub fn record(request: &[u8], out: &mut [u8]) -> usize {
         request,
         fields::run(request, frame.start, frame.len),
     ) {
-        RecordWritten::Written(length) => head(out, 0, 0, length as u64, lent.len),
-        RecordWritten::NotWritten { number, place } => head(out, number, place, 0, lent.len),
+        Ok(length) => head(out, 0, 0, length as u64, lent.len),
+        Err(refusal) => head(out, refusal.reason.number(), refusal.place, 0, lent.len),
     }
     end.at
 }
 
 // The record's bytes stand behind the answer's head, 13 bytes, and are sealed there.
-fn seal_in(out: &mut [u8], n: usize, generation: u64) -> RecordSealed {
+fn seal_in(out: &mut [u8], n: usize, generation: u64) -> Result<(), Refusal> {
     if out.len() < 13 {
-        return RecordSealed::Sealed;
+        return Ok(());
     }
     if out.len() - 13 < n {
-        return RecordSealed::Sealed;
+        return Ok(());
     }
     let end = 13 + n;
     record::seal_frame_record(&mut out[13..end], generation)
@@ -86,12 +87,12 @@ pub fn seal(request: &[u8], out: &mut [u8]) -> usize {
         fields::run(request, lent.start, lent.len),
     );
     match seal_in(out, lent.len, framed::u64_at(request, 1)) {
-        RecordSealed::Sealed => {
+        Ok(()) => {
             let c = framed::begin(out, 0, 0);
             fields::put_u32(out, c, (lent.len % 4294967296) as u32);
         }
-        RecordSealed::NotSealed { number, place } => {
-            let c = framed::begin(out, number, place);
+        Err(refusal) => {
+            let c = framed::begin(out, refusal.reason.number(), refusal.place);
             fields::put_u32(out, c, (lent.len % 4294967296) as u32);
         }
     }
@@ -99,12 +100,10 @@ pub fn seal(request: &[u8], out: &mut [u8]) -> usize {
 }
 
 fn put_body(out: &mut [u8], c: Cursor, body: Body) -> Cursor {
-    let reads = if body.reads { 1 } else { 0 };
-    let c1 = fields::put_u8(out, c, reads);
-    let c2 = fields::put_u8(out, c1, body.kind);
+    let c1 = fields::put_u8(out, c, 1);
+    let c2 = fields::put_u8(out, c1, body.kind as u8);
     let c3 = framed::put_counters(out, c2, body.number, body.generation, body.sender);
-    let code = body.code;
-    let c4 = framed::put_code(out, c3, code);
+    let c4 = framed::put_code(out, c3, body.code);
     fields::put_u64(out, c4, body.frame as u64)
 }
 
@@ -115,16 +114,19 @@ pub fn body(request: &[u8], out: &mut [u8]) -> usize {
     }
     let body = record::decode_body(fields::run(request, bytes.start, bytes.len));
     let c = framed::begin(out, 0, 0);
-    let end = put_body(out, c, body);
+    let end = match body {
+        Some(body) => put_body(out, c, body),
+        None => fields::put_run(out, c, &[0; 43]),
+    };
     end.at
 }
 
 fn put_record(out: &mut [u8], c: Cursor, r: Record) -> Cursor {
     let c1 = fields::put_u64(out, c, r.place);
     let c2 = fields::put_u64(out, c1, r.body);
-    let c3 = fields::put_u8(out, c2, r.kind);
+    let c3 = fields::put_u8(out, c2, r.kind as u8);
     let c4 = framed::put_counters(out, c3, r.number, r.generation, r.sender);
-    let c5 = framed::put_code(out, c4, record::code_of(r));
+    let c5 = framed::put_code(out, c4, r.code);
     fields::put_u64(out, c5, r.frame)
 }
 
@@ -148,12 +150,12 @@ pub fn seen(request: &[u8], out: &mut [u8]) -> usize {
     let at = framed::u64_at(request, 9) as usize;
     let c = framed::begin(out, 0, 0);
     match record::seen_at(fields::run(request, bytes.start, bytes.len), at, limit) {
-        Seen::Sound(r) => {
+        Ok(r) => {
             let c1 = fields::put_u8(out, c, 0);
             let end = put_record(out, c1, r);
             end.at
         }
-        Seen::Fault(row) => {
+        Err(row) => {
             let c1 = fields::put_u8(out, c, row_number(row));
             let end = fields::put_run(out, c1, &[0; 58]);
             end.at

@@ -13,12 +13,12 @@ ghost use Rattle.held.specs.Held.{held_scan, held_insert, held_lookup};
 use index::{Entry, Filed};
 use journal::Rule;
 use journal::answers::Scan;
-use refusals::Reason;
+use refusals::{Reason, Refusal};
 
 // What a scan answers, and the entries that it left.
 #[derive(Clone, Copy)]
 pub struct Scanned {
-    pub scan: Scan,
+    pub scan: Result<Scan, Refusal>,
     pub entries: [Entry; 1024],
 }
 

@@ -77,14 +77,15 @@ pub(crate) fn fresh_of(next: Result<u64, Refusal>, images: [[u8; 52]; 2]) -> Fre
     }
 }
 
-// ---- a request that isn't one: the number of the reason, and zeros
+// ---- a refusal, or a request that isn't one: the number of the reason, and zeros
 
-impl From<Reason> for Found {
-    ghost from_gives = { λ r f. f ≡ found_for r };
+impl From<Refusal> for Found {
+    ghost from_gives = { λ e f. f ≡ found_for e };
 
-    fn from(reason: Reason) -> Found {
+    fn from(refusal: Refusal) -> Found {
         Found {
-            number: reason.number() as u64,
+            number: refusal.reason.number() as u64,
+            place: refusal.place,
             ..Found::default()
         }
     }

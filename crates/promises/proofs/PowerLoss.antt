@@ -10,12 +10,13 @@ use lib.Dec.{leb}
 use borrow.Author.Tests.{leb-true, leb-false}
 use Rattle.prefix.specs.Prefix.{prefix_length}
 use Rattle.journal.specs.declared.Rule.TheVariants.{Tail}
-use Rattle.journal.specs.declared.Answer.TheVariants.{Open}
-use Rattle.journal.specs.declared.answers.Scan.{Scan}
 use Rattle.journal.specs.Walk.{end_of}
-use Rattle.journal.specs.Scan.{refused, opened, scan_of}
+use Rattle.journal.specs.Scan.{scan_of}
 use Rattle.journal.specs.Demand3.{durable_end}
 use Rattle.journal.proofs.OpenScans.{shut}
+use Rattle.journal.proofs.Opens.{ok_value}
+use Rattle.refusals.specs.Refusals.{refusal}
+use Rattle.std.specs.Prelude.{is_ok, IsOk}
 use Rattle.promises.specs.Shortening.{whole_in}
 use Rattle.promises.specs.Lost.{lost_to, last_place, lasting_end}
 use Rattle.promises.specs.PowerLoss.{Enough, PowerLoss, UnsyncedLoss, WholeLast, LossBehindDurable, RefusedLoss, MatchedLoss, EveryLoss}
@@ -46,15 +47,14 @@ loss_behind_durable limit N lent s rs w k m x near chance =
     (chain_loss limit N lent s rs k m c (λ z. omega arith) chance, y)
 
 pub refused_loss : RefusedLoss
-unfolding opened refused
 refused_loss limit N lent s rs w k m x chance =
     let c = of_written limit (length lent) s rs k m w x in
     record {
-      exactly = (enough, λ near. ap (λ (v : Scan). v.answer) (chain_loss limit N lent s rs k m c near chance).answer);
+      exactly = (enough, λ near. ap is_ok (chain_loss limit N lent s rs k m c near chance).answer);
       eleven = chain_eleven limit N lent s rs k m c;
     }
   where
-    enough : (scan_of limit (Tail N) (length lent) (lost_to k m s)).answer ≡ Open → Enough limit N s rs k m
+    enough : IsOk (scan_of limit (Tail N) (length lent) (lost_to k m s)) → Enough limit N s rs k m
     enough o part = go (leb (m - lasting_end s rs k m) (N * (12 + limit))) refl
       where
         go : (z : Bool) → leb (m - lasting_end s rs k m) (N * (12 + limit)) ≡ z → m - lasting_end s rs k m ≤ N * (12 + limit)
@@ -62,7 +62,8 @@ refused_loss limit N lent s rs w k m x chance =
         go false z =
             let far = leb-false (m - lasting_end s rs k m) (N * (12 + limit)) z in
             let y = chain_eleven limit N lent s rs k m (of_written limit (length lent) s rs k m w x) part far in
-            absurd (shut 11 (lasting_end s rs k m) (sym (ap (λ (v : Scan). v.answer) y.answer) ∙ o))
+            let v = ok_value (scan_of limit (Tail N) (length lent) (lost_to k m s)) o in
+            absurd (shut (refusal 11 (lasting_end s rs k m)) v.0 (sym y.answer ∙ v.1))
 
 pub matched_loss : MatchedLoss
 matched_loss limit N lent s rs w k m x = chain_matched limit N lent s rs k m (of_written limit (length lent) s rs k m w x)

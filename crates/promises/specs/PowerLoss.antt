@@ -1,17 +1,17 @@
 -- Power loss: a journal as it was written is left with its first bytes, and zeros behind them up to a new length. Tail opens it with exactly the
 -- records that lasted and cuts the rest; what else it can answer, and when, is said whole.
 -- Assumes nothing.
-use Rattle.std.specs.Prelude.{ℕ, ◌+◌, ◌*◌, ◌-◌, ◌≤◌, ◌<◌, ◌≡◌, List, ◌++◌, ◌↔◌, length, take}
+use Rattle.std.specs.Prelude.{ℕ, ◌+◌, ◌*◌, ◌-◌, ◌≤◌, ◌<◌, ◌≡◌, List, ◌++◌, ◌↔◌, length, take, Ok, Err, IsOk}
+use Rattle.refusals.specs.Refusals.{refusal}
 use Rattle.record.specs.declared.Record.{Record}
 use Rattle.record.specs.Seen.{head_length}
 use Rattle.index.specs.declared.Entry.{Entry}
 use Rattle.index.specs.Entries.{length_of, entries_of, overlay}
 use Rattle.journal.specs.declared.Rule.TheVariants.{Tail}
-use Rattle.journal.specs.declared.Answer.TheVariants.{Open}
 use Rattle.journal.specs.declared.Cut.{Cut}
 use Rattle.journal.specs.Walk.{end_of}
 use Rattle.journal.specs.Front.{front_of}
-use Rattle.journal.specs.Scan.{refused, opened, scan_of, index_after}
+use Rattle.journal.specs.Scan.{opened, scan_of, index_after}
 use Rattle.journal.specs.Demand3.{durable_end}
 use Rattle.journal.specs.Written.{Written}
 use Rattle.promises.specs.Shortening.{whole_in}
@@ -21,12 +21,12 @@ use Rattle.promises.specs.Lost.{LossAt, lost_to, last_place, lasting, lasting_en
 
 -- Tail opens these bytes with what the records kept say and nothing else, and so does the index. s is the journal as it was written
 pub record LeftOpens (limit N : ℕ) (lent : List Entry) (s : List ℕ) (left : List ℕ) (kept : List Record) (cut : Cut) : Type 0 where
-  pub answer : scan_of limit (Tail N) (length lent) left ≡ opened (front_of s) kept cut
+  pub answer : scan_of limit (Tail N) (length lent) left ≡ Ok (opened (front_of s) kept cut)
   pub index : index_after limit lent left ≡ overlay (entries_of kept) lent
 
 -- Tail refuses these bytes with the number n at the place p, and the index has the entries of the records before it
 pub record LeftRefused (limit N : ℕ) (lent : List Entry) (left : List ℕ) (kept : List Record) (n p : ℕ) : Type 0 where
-  pub answer : scan_of limit (Tail N) (length lent) left ≡ refused n p
+  pub answer : scan_of limit (Tail N) (length lent) left ≡ Err (refusal n p)
   pub index : index_after limit lent left ≡ overlay (entries_of kept) lent
 
 -- after a loss Tail opens with exactly the records that lasted
@@ -86,7 +86,7 @@ LossBehindDurable =
 
 -- only then 11: without a chance match a loss opens exactly if N is enough; where it isn't, it is 11 at the end of the records that lasted
 pub record OnlyEleven (limit N : ℕ) (lent : List Entry) (s : List ℕ) (rs : List Record) (k m : ℕ) : Type 0 where
-  pub exactly : ((scan_of limit (Tail N) (length lent) (lost_to k m s)).answer ≡ Open) ↔ Enough limit N s rs k m
+  pub exactly : IsOk (scan_of limit (Tail N) (length lent) (lost_to k m s)) ↔ Enough limit N s rs k m
   pub eleven : Decides s rs k m → N * (12 + limit) < m - lasting_end s rs k m
       → LeftRefused limit N lent (lost_to k m s) (lasting s rs k m) 11 (lasting_end s rs k m)
 

@@ -2,7 +2,7 @@
 use crate::indexes;
 use fields::{Reader, Writer};
 use journal::Rule;
-use journal::answers::{Scan, cut_of, dropped_of, number_of, place_of};
+use journal::answers::Scan;
 use prefix::Header;
 
 // The rule that a request names: its kind, and the records that may be missing, which only the first has.
@@ -17,11 +17,6 @@ fn rule(from: &mut Reader) -> Option<Rule> {
     }
 }
 
-// A number that fits a byte.
-fn small(x: u64) -> u8 {
-    (x % 256) as u8
-}
-
 // When the journal was made, and the counters that it was made with.
 fn put_header(to: &mut Writer, header: Header) {
     to.put_number(header.seconds);
@@ -34,15 +29,15 @@ fn put_header(to: &mut Writer, header: Header) {
 fn put_front(to: &mut Writer, scan: Scan) {
     put_header(to, scan.header);
     to.put(&scan.slots);
-    to.put_number(scan.active);
+    to.put_number(scan.active as u8);
     to.put_number(scan.count as u64);
     to.put_number(scan.end);
 }
 
 // From the cut on, up to the index: the counters that follow, and what the newest slot says.
 fn put_back(to: &mut Writer, scan: Scan) {
-    to.put_number(small(cut_of(scan.cut)));
-    to.put_number(dropped_of(scan.cut));
+    to.put_number((scan.cut.kind() % 256) as u8);
+    to.put_number(scan.cut.dropped());
     to.put_number(scan.dead);
     framed::put_counters(to, scan.sender, scan.target, scan.generation);
     to.put_number(scan.boundary);
@@ -61,30 +56,44 @@ pub(crate) fn scan(mut from: Reader, out: &mut [u8]) -> Option<usize> {
         return None;
     }
     let scanned = held::scan(journal, rule, limit, entries, room);
-    let scan = scanned.scan;
-    let mut to = framed::begin(out, small(number_of(scan.answer)), place_of(scan.answer));
-    put_front(&mut to, scan);
-    put_back(&mut to, scan);
+    let mut to = match scanned.scan {
+        Ok(scan) => {
+            let mut to = framed::begin(out, 0, 0);
+            put_front(&mut to, scan);
+            put_back(&mut to, scan);
+            to
+        }
+        Err(refusal) => {
+            let mut to = framed::begin(out, refusal.reason.number(), refusal.place);
+            to.put(&[0; 208]);
+            to
+        }
+    };
     indexes::put_index(&mut to, scanned.entries, room);
     Some(to.at)
 }
 
-// Operation 12: an entry, a message number and a journal, from which the message is read again.
+// Operation 12: an entry, a message number and a journal, from which the message is read again; a refusal has no code and no frame.
 pub(crate) fn reread(mut from: Reader, out: &mut [u8]) -> Option<usize> {
     let entry = indexes::entry(&mut from)?;
     let number = from.number()?;
     let journal = framed::last_run(from)?;
-    let read = journal::reread(journal, entry, number);
-    let frame = journal::frame_of(journal, read);
-    if out.len() < 30 {
-        return None;
+    match journal::reread(journal, entry, number) {
+        Ok(read) => {
+            let frame = journal::frame_of(journal, read);
+            if out.len() < 30 || out.len() - 30 < frame.len() {
+                return None;
+            }
+            let mut to = framed::begin(out, 0, 0);
+            framed::put_code(&mut to, read.code);
+            to.put_number(read.frame);
+            framed::put_run(&mut to, frame);
+            Some(to.at)
+        }
+        Err(refusal) => {
+            let mut to = framed::begin(out, refusal.reason.number(), refusal.place);
+            to.put(&[0; 21]);
+            Some(to.at)
+        }
     }
-    if out.len() - 30 < frame.len() {
-        return None;
-    }
-    let mut to = framed::begin(out, read.number, read.place);
-    framed::put_code(&mut to, read.code);
-    to.put_number(read.frame);
-    framed::put_run(&mut to, frame);
-    Some(to.at)
 }

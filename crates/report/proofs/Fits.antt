@@ -1,5 +1,9 @@
 -- No text is longer than 90,112 bytes: the first line has at most 352, an entry's line at most 85, and the index has 1,024 entries.
 -- Assumes nothing.
+use Rattle.std.specs.Prelude.{Result, Ok, Err}
+use Rattle.prefix.specs.Slots.{position_number}
+use Rattle.refusals.specs.declared.Refusal.{Refusal}
+use Rattle.refusals.specs.Refusals.{number_in}
 use mathlib.Core.Path.{◌≡◌, refl, ◌∙◌}
 use mathlib.Core.Bool.{Bool, true, false}
 use mathlib.Core.List.{List, [], ◌∷◌, ◌++◌}
@@ -11,8 +15,6 @@ use lib.ListN.{length, take, replicate, length-append, length-take, length-repli
 use Rattle.fields.specs.Fields.{pick, bit_of}
 use Rattle.index.specs.declared.Entry.{Entry}
 use Rattle.index.specs.Insert.{none}
-use Rattle.journal.specs.declared.Answer.{Answer}
-use Rattle.journal.specs.declared.Answer.TheVariants.{Open, Refused}
 use Rattle.journal.specs.declared.Cut.{Cut}
 use Rattle.journal.specs.declared.Cut.TheVariants.{None, Incomplete, Damaged}
 use Rattle.journal.specs.declared.answers.Scan.{Scan}
@@ -20,7 +22,7 @@ use Rattle.journal.specs.Scan.{scan_of, index_after}
 use Rattle.journal.proofs.OpenScans.{index_length}
 use Rattle.report.specs.Text.{letters}
 use Rattle.report.specs.Request.{rule_in, limit_in, journal_in, request_fault}
-use Rattle.report.specs.Report.{field, cut_text, counters_text, slot_text, open_line, entry_line, entry_lines, refused_line, first_line, scan_text, scanned_text, report_of}
+use Rattle.report.specs.Report.{field, cut_text, counters_text, slot_text, open_line, entry_line, entry_lines, refused_line, scan_text, scanned_text, report_of}
 use Rattle.report.specs.Bounds.{TextFits}
 use Rattle.report.proofs.Spelt.{decimal_most}
 
@@ -58,7 +60,7 @@ counters_most s =
 slot_most : (s : Scan) → Within (slot_text s) 143
 unfolding slot_text letters
 slot_most s =
-    named " active=" 8 s.active refl then named " stale=" 7 (bit_of s.stale) refl then named " reset=" 7 (bit_of s.reset) refl
+    named " active=" 8 (position_number s.active) refl then named " stale=" 7 (bit_of s.stale) refl then named " reset=" 7 (bit_of s.reset) refl
     then named " watermark=" 11 s.watermark refl then named " boundary=" 10 s.boundary refl
 
 newline : Within (letters "\n") 1
@@ -77,11 +79,6 @@ refused_most : (n p : ℕ) → Within (refused_line n p) 53
 unfolding refused_line letters
 refused_most n p = named "refused " 8 n refl then named " at " 4 p refl then newline
 
-first_most : (a : Answer) (s : Scan) → Within (first_line a s) 352
-unfolding first_line
-first_most Open s = open_most s
-first_most (Refused n p) s = record { most = omega (arith, (refused_most n p).most) }
-
 entries_most : (es : List Entry) → Within (entry_lines es) (85 * length es)
 unfolding entry_lines
 entries_most [] = record { most = lit≤ tt }
@@ -95,13 +92,14 @@ taken_most n es = rw (length-take n es) (omega arith)
 index_size : (limit : ℕ) (s : List ℕ) → length (index_after limit (replicate 1024 none) s) ≡ 1024
 index_size limit s = index_length limit (replicate 1024 none) s ∙ length-replicate 1024 none
 
+scan_most : (r : Result Scan Refusal) (es : List Entry) → length es ≡ 1024 → length (scan_text r es) ≤ 87392
+unfolding scan_text
+scan_most (Ok x) es e = let l = open_most x then entries_most (take x.count es) in omega (arith, l.most, taken_most x.count es, e)
+scan_most (Err x) es e = omega (arith, (refused_most (number_in x.reason) x.place).most)
+
 scanned_most : (i : List ℕ) → length (scanned_text i) ≤ 87392
-unfolding scanned_text scan_text
-scanned_most i =
-    let x = scan_of (limit_in i) (rule_in i) 1024 (journal_in i) in
-    let es = index_after (limit_in i) (replicate 1024 none) (journal_in i) in
-    let l = first_most x.answer x then entries_most (take x.count es) in
-    omega (arith, l.most, taken_most x.count es, index_size (limit_in i) (journal_in i))
+unfolding scanned_text
+scanned_most i = scan_most (scan_of (limit_in i) (rule_in i) 1024 (journal_in i)) (index_after (limit_in i) (replicate 1024 none) (journal_in i)) (index_size (limit_in i) (journal_in i))
 
 pub text-fits : TextFits
 unfolding report_of

@@ -1,6 +1,13 @@
 -- The text is lines: it ends in a newline (`ends_line`). A refused request has one line (`lines_refused`), a scan one and one more for each entry that
 -- it counts (`lines_told`): no name and no number has a newline in it.
 -- Assumes nothing.
+use Rattle.std.specs.Prelude.{Result, Ok, Err}
+use Rattle.prefix.specs.Slots.{position_number}
+use Rattle.index.specs.Insert.{none as no_entry}
+use Rattle.journal.specs.Scan.{scan_of, index_after}
+use lib.ListN.{replicate}
+use Rattle.refusals.specs.declared.Refusal.{Refusal}
+use Rattle.refusals.specs.Refusals.{number_in}
 use mathlib.Core.Path.{◌≡◌, refl, sym, ap, ◌∙◌}
 use mathlib.Core.Bool.{Bool, true, false}
 use mathlib.Core.List.{List, [], ◌∷◌, ◌++◌, append_assoc, append-nil}
@@ -12,14 +19,12 @@ use lib.ListN.{length, take}
 use borrow.Author.Tests.{ne_eqb}
 use Rattle.fields.specs.Fields.{pick, bit_of}
 use Rattle.index.specs.declared.Entry.{Entry}
-use Rattle.journal.specs.declared.Answer.{Answer}
-use Rattle.journal.specs.declared.Answer.TheVariants.{Open, Refused}
 use Rattle.journal.specs.declared.Cut.{Cut}
 use Rattle.journal.specs.declared.Cut.TheVariants.{None, Incomplete, Damaged}
 use Rattle.journal.specs.declared.answers.Scan.{Scan}
 use Rattle.report.specs.Text.{letters, decimal}
-use Rattle.report.specs.Request.{request_fault}
-use Rattle.report.specs.Report.{field, cut_text, counters_text, slot_text, open_line, entry_line, entry_lines, refused_line, first_line, scan_text, scanned_text, report_of}
+use Rattle.report.specs.Request.{limit_in, rule_in, journal_in, request_fault}
+use Rattle.report.specs.Report.{field, cut_text, counters_text, slot_text, open_line, entry_line, entry_lines, refused_line, scan_text, scanned_text, report_of}
 use Rattle.report.proofs.Spelt.{Digits, none, then, decimal-digits}
 
 -- how many newlines there are
@@ -70,7 +75,7 @@ counters_plain s =
 slot-plain : (s : Scan) → Counts (slot_text s) 0
 unfolding slot_text letters newlines
 slot-plain s =
-    named " active=" s.active refl also named " stale=" (bit_of s.stale) refl also named " reset=" (bit_of s.reset) refl
+    named " active=" (position_number s.active) refl also named " stale=" (bit_of s.stale) refl also named " reset=" (bit_of s.reset) refl
     also named " watermark=" s.watermark refl also named " boundary=" s.boundary refl
 
 -- ---- a line has one
@@ -87,11 +92,6 @@ refused_one : (n p : ℕ) → Counts (refused_line n p) 1
 unfolding refused_line letters newlines
 refused_one n p = named "refused " n refl also named " at " p refl also newline
 
-first_one : (a : Answer) (s : Scan) → Counts (first_line a s) 1
-unfolding first_line
-first_one Open s = open_one s
-first_one (Refused n p) s = refused_one n p
-
 entries_each : (es : List Entry) → Counts (entry_lines es) (length es)
 unfolding entry_lines newlines
 entries_each [] = record { count = refl }
@@ -100,9 +100,14 @@ entries_each (e ∷ es) = let l = entry_one e also entries_each es in record { c
 pub lines_refused : (n p : ℕ) → newlines (refused_line n p) ≡ 1
 lines_refused n p = (refused_one n p).count
 
-pub lines_told : (s : Scan) (es : List Entry) → newlines (scan_text s es) ≡ 1 + length (take s.count es)
+pub lines_told : (s : Scan) (es : List Entry) → newlines (scan_text (Ok s) es) ≡ 1 + length (take s.count es)
 unfolding scan_text
-lines_told s es = (first_one s.answer s also entries_each (take s.count es)).count
+lines_told s es = (open_one s also entries_each (take s.count es)).count
+
+-- a refused scan has one
+pub one_refused : (e : Refusal) (es : List Entry) → newlines (scan_text (Err e) es) ≡ 1
+unfolding scan_text
+one_refused e es = lines_refused (number_in e.reason) e.place
 
 -- ---- the end
 
@@ -130,11 +135,6 @@ refused_ends : (n p : ℕ) → EndsLine (refused_line n p)
 unfolding refused_line
 refused_ends n p = behind (field "refused " n ++ field " at " p) line_end
 
-first_ends : (a : Answer) (s : Scan) → EndsLine (first_line a s)
-unfolding first_line
-first_ends Open s = open_ends s
-first_ends (Refused n p) s = refused_ends n p
-
 with_entries : (t : List ℕ) (es : List Entry) → EndsLine t → EndsLine (t ++ entry_lines es)
 unfolding entry_lines
 with_entries t [] x = record { front = x.front; ends = append-nil t ∙ x.ends }
@@ -142,10 +142,15 @@ with_entries t (e ∷ es) x =
     let y = with_entries (t ++ entry_line e) es (behind t (entry_ends e)) in
     record { front = y.front; ends = sym (append_assoc t (entry_line e) (entry_lines es)) ∙ y.ends }
 
+scan_ends : (r : Result Scan Refusal) (es : List Entry) → EndsLine (scan_text r es)
+unfolding scan_text
+scan_ends (Ok s) es = with_entries (open_line s) (take s.count es) (open_ends s)
+scan_ends (Err e) es = refused_ends (number_in e.reason) e.place
+
 pub ends_line : (i : List ℕ) → EndsLine (report_of i)
-unfolding report_of scanned_text scan_text
+unfolding report_of scanned_text
 ends_line i = go (eqb (request_fault i) 0)
   where
     go : (b : Bool) → EndsLine (pick b (scanned_text i) (refused_line (request_fault i) 0))
-    go true = with_entries _ _ (first_ends _ _)
+    go true = scan_ends (scan_of (limit_in i) (rule_in i) 1024 (journal_in i)) (index_after (limit_in i) (replicate 1024 no_entry) (journal_in i))
     go false = refused_ends (request_fault i) 0

@@ -1,6 +1,7 @@
 -- What was written is printed: a request for a journal that the operations wrote, with at most 1,024 distinct numbers, prints that it opens with
 -- nothing cut, and a line for each number, with its last record. So the index has room for 1,024.
 -- Assumes nothing.
+use Rattle.std.specs.Prelude.{Ok}
 use mathlib.Core.Path.{◌≡◌, refl, sym, ap, ap₂, ◌∙◌}
 use mathlib.Core.List.{List, ◌++◌}
 use Prim.Native.Nat.{ℕ, ◌≤◌}
@@ -22,14 +23,14 @@ use Rattle.journal.specs.WrittenBytes.{LeavesPrefix, LeaveAll}
 use Rattle.journal.specs.WrittenOpens.{records_from, fresh_front}
 use Rattle.journal.proofs.Writes.{written_opens}
 use Rattle.report.specs.Request.{rule_in, limit_in, journal_in, request_fault}
-use Rattle.report.specs.Report.{open_line, entry_lines, first_line, scan_text, report_of}
+use Rattle.report.specs.Report.{open_line, entry_lines, scan_text, report_of}
 use Rattle.report.proofs.RequestCases.{sound_size}
 use Rattle.report.proofs.Answered.{scanned_report}
 
 -- the text of an open scan, with the entries of its records
 opened-text : (f : Front) (rs : List Record) (lent : List Entry)
-    → scan_text (opened f rs None) (overlay (entries_of rs) lent) ≡ open_line (opened f rs None) ++ entry_lines (entries_of rs)
-unfolding scan_text first_line opened
+    → scan_text (Ok (opened f rs None)) (overlay (entries_of rs) lent) ≡ open_line (opened f rs None) ++ entry_lines (entries_of rs)
+unfolding scan_text opened
 opened-text f rs lent = ap (λ (es : List Entry). open_line (opened f rs None) ++ entry_lines es) (in_use_lem rs lent)
 
 pub written_printed : (i : List ℕ) (h : Header) (first : Slot) (ms : List Message) (x t : List ℕ)

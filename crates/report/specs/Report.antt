@@ -1,12 +1,13 @@
 -- What the check program prints: a line that says how the journal opens, and one for each entry of its index; or the refusal alone.
 -- Assumes nothing.
-use Rattle.std.specs.Prelude.{ℕ, List, [], ◌∷◌, ◌++◌, eqb, take, replicate}
+use Rattle.std.specs.Prelude.{ℕ, List, [], ◌∷◌, ◌++◌, eqb, take, replicate, Result, Ok, Err}
 use Prim.Native.String.{String}
 use Rattle.fields.specs.Fields.{pick, bit_of}
+use Rattle.prefix.specs.Slots.{position_number}
+use Rattle.refusals.specs.declared.Refusal.{Refusal}
+use Rattle.refusals.specs.Refusals.{number_in}
 use Rattle.index.specs.declared.Entry.{Entry}
 use Rattle.index.specs.Insert.{none}
-use Rattle.journal.specs.declared.Answer.{Answer}
-use Rattle.journal.specs.declared.Answer.TheVariants.{Open, Refused}
 use Rattle.journal.specs.declared.Cut.{Cut}
 use Rattle.journal.specs.declared.Cut.TheVariants.{None, Incomplete, Damaged}
 use Rattle.journal.specs.declared.answers.Scan.{Scan}
@@ -29,7 +30,7 @@ unfoldable pub counters_text : Scan → List ℕ
 counters_text s = field "open end=" s.end ++ field " records=" s.count ++ field " dead=" s.dead ++ field " sender=" s.sender ++ field " target=" s.target ++ field " generation=" s.generation
 
 unfoldable pub slot_text : Scan → List ℕ
-slot_text s = field " active=" s.active ++ field " stale=" (bit_of s.stale) ++ field " reset=" (bit_of s.reset) ++ field " watermark=" s.watermark ++ field " boundary=" s.boundary
+slot_text s = field " active=" (position_number s.active) ++ field " stale=" (bit_of s.stale) ++ field " reset=" (bit_of s.reset) ++ field " watermark=" s.watermark ++ field " boundary=" s.boundary
 
 unfoldable pub open_line : Scan → List ℕ
 open_line s = counters_text s ++ slot_text s ++ cut_text s.cut ++ letters "\n"
@@ -46,13 +47,10 @@ entry_lines (e ∷ es) = entry_line e ++ entry_lines es
 unfoldable pub refused_line : (number place : ℕ) → List ℕ
 refused_line n p = field "refused " n ++ field " at " p ++ letters "\n"
 
-unfoldable pub first_line : Answer → Scan → List ℕ
-first_line Open s = open_line s
-first_line (Refused n p) s = refused_line n p
-
--- what a scan comes to, with the index that it left. A refused scan counts no entry
-unfoldable pub scan_text : Scan → List Entry → List ℕ
-scan_text s es = first_line s.answer s ++ entry_lines (take s.count es)
+-- what a scan comes to, with the index that it left; or its refusal alone
+unfoldable pub scan_text : Result Scan Refusal → List Entry → List ℕ
+scan_text (Ok s) es = open_line s ++ entry_lines (take s.count es)
+scan_text (Err e) es = refused_line (number_in e.reason) e.place
 
 -- the scan that a request asks for, over an index of 1,024 entries
 unfoldable pub scanned_text : (input : List ℕ) → List ℕ

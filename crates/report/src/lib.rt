@@ -33,9 +33,13 @@ impl<'a> Printer<'a> {
         ensures { Prints (scan_text (scan_of request.entry.limit request.entry.rule 1024 request.entry.journal.now) (index_after request.entry.limit (replicate 1024 none) request.entry.journal.now)) self.old self.new }
     {
         let mut entries = [Entry::default(); 1024];
-        let found = journal::scan(request.journal, request.rule, request.limit, &mut entries);
-        self.put_first(found);
-        self.put_entries(&entries[..found.count.min(1024)]);
+        match journal::scan(request.journal, request.rule, request.limit, &mut entries) {
+            Ok(found) => {
+                self.put_open(found);
+                self.put_entries(&entries[..found.count.min(1024)]);
+            }
+            Err(refusal) => self.put_refused(refusal.reason.number(), refusal.place),
+        }
     }
 
     // The answer to a request: what its scan comes to, or why it is refused.

@@ -1,11 +1,11 @@
 // The lines of a report.
-ghost use Rattle.report.specs.Report.{cut_text, counters_text, slot_text, open_line, entry_line, entry_lines, refused_line, first_line};
+ghost use Rattle.report.specs.Report.{cut_text, counters_text, slot_text, open_line, entry_line, entry_lines, refused_line};
 ghost use Rattle.report.specs.Steps.{Prints};
 
 use crate::words::Printer;
 use index::Entry;
 use journal::answers::Scan;
-use journal::{Answer, Cut};
+use journal::Cut;
 
 impl<'a> Printer<'a> {
     #[tactic(auto, unfolding(crate::specs::Report::cut_text, crate::specs::Report::field, crate::specs::Text::letters))]
@@ -42,13 +42,13 @@ impl<'a> Printer<'a> {
         self.put_field(b" boundary=", found.boundary);
     }
 
-    fn put_open(&mut self, found: Scan)
+    // The first line of an opened journal.
+    pub(crate) fn put_open(&mut self, found: Scan)
         ensures { Prints (open_line found) self.old self.new }
     {
         self.put_counters(found);
         self.put_slot(found);
-        let cut = found.cut;
-        self.put_cut(cut);
+        self.put_cut(found.cut);
         self.end_line();
     }
 
@@ -58,18 +58,6 @@ impl<'a> Printer<'a> {
         self.put_field(b"refused ", number as u64);
         self.put_field(b" at ", place);
         self.end_line();
-    }
-
-    // The first line: how the journal opens, or the refusal.
-    #[tactic(auto, unfolding(crate::specs::Report::first_line))]
-    pub(crate) fn put_first(&mut self, found: Scan)
-        ensures { Prints (first_line found.answer found) self.old self.new }
-    {
-        let answer = found.answer;
-        match answer {
-            Answer::Open => self.put_open(found),
-            Answer::Refused { number, place } => self.put_refused(number, place),
-        }
     }
 
     fn put_entry(&mut self, entry: Entry)

@@ -4,8 +4,8 @@ ghost use Rattle.report.specs.Steps.{Prints};
 
 use crate::words::Printer;
 use index::Entry;
-use journal::answers::Scan;
 use journal::Cut;
+use journal::answers::Scan;
 
 impl<'a> Printer<'a> {
     #[tactic(auto, unfolding(crate::specs::Report::cut_text, crate::specs::Report::field, crate::specs::Text::letters))]

@@ -1,4 +1,4 @@
--- The first line, by the answer; and the lines of entries, one more at a time.
+-- The lines of entries, one more at a time.
 -- Assumes nothing.
 use mathlib.Core.Path.{◌≡◌, refl, sym, ap, ◌∙◌}
 use mathlib.Core.List.{List, [], ◌∷◌, ◌++◌, append_assoc, append-nil}
@@ -8,21 +8,10 @@ use native.Mathlib.Numerals.{add-one}
 use lib.ListN.{length, take, get_or}
 use lib.Seq.{take-suc, take_all}
 use Rattle.index.specs.declared.Entry.{Entry}
-use Rattle.journal.specs.declared.Answer.{Answer}
-use Rattle.journal.specs.declared.Answer.TheVariants.{Open, Refused}
-use Rattle.journal.specs.declared.answers.Scan.{Scan}
 use Rattle.report.specs.declared.words.Printer.{Printer}
 use Rattle.report.specs.Steps.{Prints}
 use Rattle.report.proofs.Pieces.{◌then◌, printed_as, printed_nothing}
-use Rattle.report.specs.Report.{open_line, entry_line, entry_lines, refused_line, first_line}
-
-pub first_open : (a : Answer) (s : Scan) → a ≡ Open → first_line a s ≡ open_line s
-unfolding first_line
-first_open a s e = rw e
-
-pub first_refused : (a : Answer) (s : Scan) (n p : ℕ) → a ≡ Refused n p → first_line a s ≡ refused_line n p
-unfolding first_line
-first_refused a s n p e = rw e
+use Rattle.report.specs.Report.{entry_line, entry_lines}
 
 pub lines_none : (p : Printer) → Prints (entry_lines []) p p
 unfolding entry_lines

@@ -29,9 +29,6 @@ stored-behind a b s at =
     ∙ sym (sets_past b (sets s at a) (at + length a) (rw (length-sets s at a) (omega (arith, le))))
     ∙ sym (sets_append a b s at))
 
-ends_behind : (a b n at : ℕ) → at + min a (n - at) + min b (n - (at + min a (n - at))) ≡ at + min (a + b) (n - at)
-ends_behind a b n at = omega arith
-
 -- one text behind another is printed after it
 printed_both : (a b : List ℕ) (p : Printer) → printed (a ++ b) p ≡ printed b (printed a p)
 unfolding printed

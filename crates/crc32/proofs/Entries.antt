@@ -2,11 +2,11 @@
 --     Tabled           the test: of n rows, row after row
 --     rule             the entry at a place is what `row_entry` says
 -- Assumes nothing.
-use mathlib.Core.Path.{◌≡◌, refl, sym, ap, ap₂, ◌∙◌, subst}
+use mathlib.Core.Path.{◌≡◌, refl, sym, ap, ◌∙◌, subst}
 use mathlib.Core.Bool.{Bool, true, false, ◌&&◌}
 use mathlib.Core.List.{List, [], ◌∷◌, ◌++◌}
 use Prim.Native.Nat.{ℕ, zero, suc, ◌+◌, ◌*◌, ◌/◌, ◌%◌, ◌^◌, ◌<◌}
-use native.Mathlib.Nat.{add-zero, zero-add, add-suc, suc-add, add_comm, le_of_suc-le-suc, not-suc-le-zero, le_of_lt, mod-lt, div-eq_of_lt, mod-eq_of_lt}
+use native.Mathlib.Nat.{add-zero, zero-add, add-suc, suc-add, add_comm, le_of_suc-le-suc, not-suc-le-zero, le_of_lt, mod-lt}
 use native.Mathlib.Omega.{arith}
 use lib.Bits.{xor_zero_r}
 use lib.Dec.{T, eqb, eqb→eq, lit<}
@@ -14,7 +14,7 @@ use lib.ListN.{length, get_or, get_or-append}
 use mir.Facts.{and_yes}
 use lib.Pow.{pow_pos, split}
 use lib.Seq.{get_or-append-add}
-use Rattle.crc32.specs.Crc.{feeds, next}
+use Rattle.crc32.specs.Crc.{next}
 use Rattle.crc32.specs.Rows.{row_entry}
 use Rattle.crc32.proofs.Register.{shifts, shifts-add, next-shifts, from_nothing}
 
@@ -89,8 +89,3 @@ module _ (n : ℕ) (xs : List ℕ) (t : Tabled n xs) where
       ∙ rows j b (omega arith) byte
       ∙ ap (λ (m : ℕ). shifts m b) (add_comm 8 (j * 8))
       ∙ sym (from_nothing j b byte)
-
--- row 0
-pub first : (k : ℕ) → k < 256 → row_entry k ≡ next 0 k
-unfolding row_entry next
-first k h = ap₂ (λ (n b : ℕ). feeds (n * 8 + 8) 0 b) (div-eq_of_lt h) (mod-eq_of_lt h)

@@ -1,19 +1,20 @@
 -- Eight bytes at once: the register goes into the first four, and each of the eight then goes by a row of its own.
 --     from_bytes, from_number     `row_byte`: where the byte of a row stands
+--     by_entry                    `one`
 --     no_row, one_row, all_rows   `eight`: before its loop, one turn, and after it
 --     eight_on                    `update`: one turn
 -- Assumes nothing.
 use mathlib.Core.Path.{◌≡◌, sym, ap, ap₂, ◌∙◌, subst}
 use mathlib.Core.List.{List, [], ◌∷◌, ◌++◌}
 use Prim.Native.Nat.{ℕ, zero, suc, ◌+◌, ◌*◌, ◌-◌, ◌/◌, ◌%◌, ◌^◌, ◌≤◌, ◌<◌}
-use native.Mathlib.Nat.{mod-lt, le_of_suc-le-suc, not-suc-le-zero, suc-mul, add_comm, mul_comm, div-one}
+use native.Mathlib.Nat.{mod-lt, mod-eq_of_lt, le_of_suc-le-suc, not-suc-le-zero, suc-mul, add_comm, mul_comm, div-one}
 use native.Mathlib.Numerals.{add-one}
 use native.Mathlib.Omega.{arith}
 use lib.Pow.{shr-shr, high, low}
-use lib.Bits.{bit_xor, bit_and, and_mask, xor_shifted, xor_zero_l, xor_zero_r, xor_comm}
+use lib.Bits.{bit_xor, bit_and, and_mask, xor_mod, xor_shifted, xor_zero_l, xor_zero_r, xor_comm}
 use lib.Dec.{lit<}
-use lib.ListN.{length, get_or, take, drop, length-drop, length-append, take-append-drop, drop_of_length-le, get_or-append}
-use lib.Seq.{drop-cons, drop-drop, take_all, take-add, get_or-take, get_or-drop, get_or-append-add, length-take-le}
+use lib.ListN.{length, get_or, take, drop, length-drop, length-append, drop_of_length-le, get_or-append}
+use lib.Seq.{drop-cons, take_all, get_or-drop, get_or-append-add}
 use Rattle.fields.specs.Fields.{le, le_bytes, part}
 use Rattle.fields.proofs.Back.{le_back}
 use Rattle.fields.proofs.Parts.{rest_all}
@@ -21,8 +22,8 @@ use Rattle.fields.proofs.Widths.{le_bytes-length}
 use Rattle.crc32.specs.Crc.{next, feeds, crc_from}
 use Rattle.crc32.specs.Rows.{row_entry}
 use Rattle.crc32.proofs.Xor.{xor_assoc}
-use Rattle.crc32.proofs.Register.{shifts, shifts-add, shifts-xor, shifts_high, next-shifts, from_nothing}
-use Rattle.crc32.proofs.Joined.{crc_from-append}
+use Rattle.crc32.proofs.Register.{next_split, shifts, shifts-add, shifts-xor, shifts_high, next-shifts, from_nothing}
+use Rattle.crc32.proofs.Joined.{crc_from-append, from_then}
 
 -- ---- lists of bytes
 
@@ -30,7 +31,7 @@ use Rattle.crc32.proofs.Joined.{crc_from-append}
 abbrev pub Bytes : List ℕ → Type 0
 Bytes s = (k : ℕ) → get_or s k 0 < 2 ^ 8
 
-none : Bytes []
+pub none : Bytes []
 none zero = lit< tt
 none (suc k) = lit< tt
 
@@ -39,14 +40,8 @@ joined [] ys a b k = b k
 joined (x ∷ xs) ys a b zero = a 0
 joined (x ∷ xs) ys a b (suc k) = joined xs ys (λ m. a (suc m)) b k
 
-front : (n : ℕ) (s : List ℕ) → Bytes s → Bytes (take n s)
-front zero s a k = none k
-front (suc n) [] a k = none k
-front (suc n) (x ∷ xs) a zero = a 0
-front (suc n) (x ∷ xs) a (suc k) = front n xs (λ m. a (suc m)) k
-
-of_part : (n : ℕ) (s : List ℕ) (p : ℕ) → Bytes s → Bytes (part n s p)
-of_part n s p a = front n (drop p s) (λ k. subst (λ (b : ℕ). b < 2 ^ 8) (sym (get_or-drop p s k 0)) (a (p + k)))
+behind : (n : ℕ) (s : List ℕ) → Bytes s → Bytes (drop n s)
+behind n s a k = subst (λ (b : ℕ). b < 2 ^ 8) (sym (get_or-drop n s k 0)) (a (n + k))
 
 of_number : (n x : ℕ) → Bytes (le_bytes n x)
 unfolding le_bytes
@@ -107,93 +102,93 @@ entry_at j b h =
     ∙ shifts-add 8 (j * 8) b
     ∙ ap (shifts (j * 8)) (ap (shifts 8) (sym (xor_zero_l b)) ∙ sym (next-shifts 0 b h))
 
+-- one byte by itself: it goes by row 0
+pub by_entry : (c b : ℕ) → b < 2 ^ 8 → next c b ≡ bit_xor (c / 2 ^ 8) (row_entry (256 * 0 + bit_xor (bit_and c 255) b))
+unfolding shifts
+by_entry c b h =
+    let low_byte = bit_xor c b % 2 ^ 8 in
+    let sent : bit_xor (bit_and c 255) b ≡ low_byte = ap₂ bit_xor (and_mask c 8) (sym (mod-eq_of_lt h)) ∙ sym (xor_mod c b 8) in
+    next_split c b h
+    ∙ ap (bit_xor (c / 2 ^ 8)) (sym (entry_at 0 low_byte (mod-lt (bit_xor c b) (lit< tt))) ∙ ap (λ (k : ℕ). row_entry (256 * 0 + k)) (sym sent))
+
 -- the last j bytes are through; the one before them, at p, goes by row j
-row_on : (t : List ℕ) (j p r e : ℕ) → Bytes t → length t ≡ p + 1 + j → r ≡ crc_from 0 (drop (p + 1) t)
-    → e ≡ row_entry (256 * j + get_or t p 0) → bit_xor r e ≡ crc_from 0 (drop p t)
+row_on : (t : List ℕ) (j p : ℕ) → Bytes t → length t ≡ p + 1 + j
+    → bit_xor (crc_from 0 (drop (p + 1) t)) (row_entry (256 * j + get_or t p 0)) ≡ crc_from 0 (drop p t)
 unfolding crc_from
-row_on t j p r e small many er ee =
+row_on t j p small many =
     let b = get_or t p 0 in
     let left : length t - suc p ≡ j = omega arith in
-    xor_comm r e
-    ∙ ap₂ bit_xor (ee ∙ entry_at j b (small p) ∙ ap (λ (n : ℕ). shifts (n * 8) (next 0 b)) (sym left)) (er ∙ ap (λ (n : ℕ). crc_from 0 (drop n t)) (add-one p))
+    xor_comm (crc_from 0 (drop (p + 1) t)) (row_entry (256 * j + b))
+    ∙ ap₂ bit_xor (entry_at j b (small p) ∙ ap (λ (n : ℕ). shifts (n * 8) (next 0 b)) (sym left)) (ap (λ (n : ℕ). crc_from 0 (drop n t)) (add-one p))
     ∙ sym (apart (next 0 b) t (suc p) small (omega arith))
     ∙ sym (ap (crc_from 0) (drop-cons t p 0 (omega arith)))
 
 -- ---- the register goes into the first four bytes
 
-mixed : (n c x : ℕ) (s : List ℕ) (p : ℕ) → Bytes s → p + n ≤ length s → x ≡ bit_xor c (le n s p) → x < 256 ^ n
-    → crc_from 0 (le_bytes n x) ≡ crc_from c (part n s p)
-mixed n c x s p small h ex hx =
+mixed : (n c x : ℕ) (s : List ℕ) → Bytes s → n ≤ length s → x ≡ bit_xor c (le n s 0) → x < 256 ^ n
+    → crc_from 0 (le_bytes n x) ≡ crc_from c (take n s)
+mixed n c x s small h ex hx =
     let t = le_bytes n x in
     ap (crc_from 0) (sym (take_all n t (omega (arith, le_bytes-length n x))))
     ∙ at_once n 0 t 0 (of_number n x) (omega (arith, le_bytes-length n x))
     ∙ ap (shifts (n * 8)) (xor_zero_l (le n t 0) ∙ le_back n x hx ∙ ex)
-    ∙ sym (at_once n c s p small h)
+    ∙ sym (at_once n c s 0 small (omega arith))
 
--- the eight bytes of s at i, the first four as the number x
-abbrev pub eight_of : (x : ℕ) (s : List ℕ) (i : ℕ) → List ℕ
-eight_of x s i = le_bytes 4 x ++ part 4 s (i + 4)
+-- the eight bytes of s, the first four as the number x
+abbrev pub eight_of : (x : ℕ) (s : List ℕ) → List ℕ
+eight_of x s = le_bytes 4 x ++ drop 4 s
 
 -- the byte of row j, where it stands in s
-pub from_bytes : (x : ℕ) (s : List ℕ) (i j : ℕ) → j < 4 → get_or s (i + 7 - j) 0 ≡ get_or (eight_of x s i) (7 - j) 0
-from_bytes x s i j h =
+pub from_bytes : (x : ℕ) (s : List ℕ) (j : ℕ) → j < 4 → get_or (eight_of x s) (7 - j) 0 ≡ get_or s (7 - j) 0
+from_bytes x s j h =
     let four = le_bytes 4 x in
     let at : 7 - j ≡ length four + (3 - j) = omega (arith, le_bytes-length 4 x) in
-    let place : i + 7 - j ≡ i + 4 + (3 - j) = omega arith in
-    ap (λ (k : ℕ). get_or s k 0) place
-    ∙ sym (get_or-take 4 (drop (i + 4) s) (3 - j) 0 (omega arith) ∙ get_or-drop (i + 4) s (3 - j) 0)
-    ∙ sym (get_or-append-add four (part 4 s (i + 4)) (3 - j) 0)
-    ∙ ap (λ (k : ℕ). get_or (eight_of x s i) k 0) (sym at)
+    let place : 4 + (3 - j) ≡ 7 - j = omega arith in
+    ap (λ (k : ℕ). get_or (eight_of x s) k 0) at
+    ∙ get_or-append-add four (drop 4 s) (3 - j) 0
+    ∙ get_or-drop 4 s (3 - j) 0
+    ∙ ap (λ (k : ℕ). get_or s k 0) place
 
 -- the same, where it stands in x
-pub from_number : (x : ℕ) (s : List ℕ) (i j : ℕ) → 4 ≤ j → j < 8 → bit_and (x / 2 ^ (56 - 8 * j)) 255 ≡ get_or (eight_of x s i) (7 - j) 0
-from_number x s i j l h =
-    let four = le_bytes 4 x in
-    and_mask (x / 2 ^ (56 - 8 * j)) 8
+pub from_number : (x : ℕ) (t : List ℕ) (j : ℕ) → 4 ≤ j → j < 8 → get_or (le_bytes 4 x ++ t) (7 - j) 0 ≡ bit_and (x / 2 ^ (56 - 8 * j)) 255
+from_number x t j l h =
+    get_or-append (le_bytes 4 x) t 0 (7 - j) (omega (arith, le_bytes-length 4 x))
+    ∙ byte_of 4 x (7 - j) (omega arith)
     ∙ ap (λ (n : ℕ). x / 2 ^ n % 2 ^ 8) (omega arith)
-    ∙ sym (byte_of 4 x (7 - j) (omega arith))
-    ∙ sym (get_or-append four (part 4 s (i + 4)) 0 (7 - j) (omega (arith, le_bytes-length 4 x)))
+    ∙ sym (and_mask (x / 2 ^ (56 - 8 * j)) 8)
 
-module _ (c x : ℕ) (s : List ℕ) (i : ℕ) (small : Bytes s) (room : i + 8 ≤ length s) where
-  eight-bytes : Bytes (eight_of x s i)
-  eight-bytes = joined (le_bytes 4 x) (part 4 s (i + 4)) (of_number 4 x) (of_part 4 s (i + 4) small)
+module _ (x : ℕ) (s : List ℕ) (small : Bytes s) (many : length s ≡ 8) where
+  eight-bytes : Bytes (eight_of x s)
+  eight-bytes = joined (le_bytes 4 x) (drop 4 s) (of_number 4 x) (behind 4 s small)
 
-  eight_many : length (eight_of x s i) ≡ 8
-  eight_many =
-      length-append (le_bytes 4 x) (part 4 s (i + 4))
-      ∙ omega (arith, le_bytes-length 4 x, length-take-le 4 (drop (i + 4) s) (simp length-drop (omega arith)))
+  eight_many : length (eight_of x s) ≡ 8
+  eight_many = length-append (le_bytes 4 x) (drop 4 s) ∙ omega (arith, le_bytes-length 4 x, length-drop 4 s, many)
 
   -- the register, from 0, after as many of the last bytes as rows are done
-  pub no_row : 0 ≡ crc_from 0 (drop 8 (eight_of x s i))
+  pub no_row : crc_from 0 (drop 8 (eight_of x s)) ≡ 0
   unfolding crc_from
   no_row =
-      let few : length (eight_of x s i) ≤ 8 = omega (arith, eight_many) in
-      sym (ap (crc_from 0) (drop_of_length-le (eight_of x s i) few))
+      let few : length (eight_of x s) ≤ 8 = omega (arith, eight_many) in
+      ap (crc_from 0) (drop_of_length-le (eight_of x s) few)
 
-  pub one_row : (j r e b : ℕ) → j < 8 → r ≡ crc_from 0 (drop (8 - j) (eight_of x s i)) → b ≡ get_or (eight_of x s i) (7 - j) 0 → e ≡ row_entry (256 * j + b)
-      → bit_xor r e ≡ crc_from 0 (drop (8 - (j + 1)) (eight_of x s i))
-  one_row j r e b h er eb ee =
-      let t = eight_of x s i in
+  pub one_row : (j : ℕ) → j < 8 → crc_from 0 (drop (8 - (j + 1)) (eight_of x s))
+      ≡ bit_xor (crc_from 0 (drop (8 - j) (eight_of x s))) (row_entry (256 * j + get_or (eight_of x s) (7 - j) 0))
+  one_row j h =
+      let t = eight_of x s in
       let done : 8 - j ≡ 7 - j + 1 = omega arith in
       let left : 7 - j ≡ 8 - (j + 1) = omega arith in
-      row_on t j (7 - j) r e eight-bytes (omega (arith, eight_many)) (er ∙ ap (λ (n : ℕ). crc_from 0 (drop n t)) done) (ee ∙ ap (λ (y : ℕ). row_entry (256 * j + y)) eb)
-      ∙ ap (λ (n : ℕ). crc_from 0 (drop n t)) left
+      sym (row_on t j (7 - j) eight-bytes (omega (arith, eight_many)) ∙ ap (λ (n : ℕ). crc_from 0 (drop n t)) left)
+      ∙ ap (λ (n : ℕ). bit_xor (crc_from 0 (drop n t)) (row_entry (256 * j + get_or t (7 - j) 0))) (sym done)
 
-  pub all_rows : (j r : ℕ) → j ≡ 8 → r ≡ crc_from 0 (drop (8 - j) (eight_of x s i)) → x ≡ bit_xor c (le 4 s i) → x < 2 ^ 32 → r ≡ crc_from c (take 8 (drop i s))
-  all_rows j r e er ex hx =
-      let behind = part 4 s (i + 4) in
-      er
-      ∙ ap (λ (n : ℕ). crc_from 0 (drop (8 - n) (eight_of x s i))) e
-      ∙ crc_from-append 0 (le_bytes 4 x) behind
-      ∙ ap (λ (d : ℕ). crc_from d behind) (mixed 4 c x s i small (omega arith) ex hx)
-      ∙ sym (crc_from-append c (part 4 s i) behind)
-      ∙ ap (λ (l : List ℕ). crc_from c (part 4 s i ++ take 4 l)) (sym (drop-drop 4 i s))
-      ∙ ap (crc_from c) (sym (take-add 4 4 (drop i s)))
+  -- after all of them; the register c was put into the first four, and goes through with them
+  pub all_rows : (c j : ℕ) → j ≡ 8 → x ≡ bit_xor c (le 4 s 0) → x < 2 ^ 32 → crc_from 0 (drop (8 - j) (eight_of x s)) ≡ crc_from c s
+  all_rows c j e ex hx =
+      ap (λ (n : ℕ). crc_from 0 (drop (8 - n) (eight_of x s))) e
+      ∙ crc_from-append 0 (le_bytes 4 x) (drop 4 s)
+      ∙ ap (λ (d : ℕ). crc_from d (drop 4 s)) (mixed 4 c x s small (omega (arith, many)) ex hx)
+      ∙ from_then c 4 s
 
 -- ---- eight bytes, and those behind them
 
-pub eight_on : (c : ℕ) (s : List ℕ) (i : ℕ) → crc_from (crc_from c (take 8 (drop i s))) (drop (i + 8) s) ≡ crc_from c (drop i s)
-eight_on c s i =
-    ap (crc_from (crc_from c (take 8 (drop i s)))) (sym (drop-drop 8 i s))
-    ∙ sym (crc_from-append c (take 8 (drop i s)) (drop 8 (drop i s)))
-    ∙ ap (crc_from c) (take-append-drop 8 (drop i s))
+pub eight_on : (c : ℕ) (s : List ℕ) → crc_from c s ≡ crc_from (crc_from c (take 8 s)) (drop 8 s)
+eight_on c s = sym (from_then c 8 s)

@@ -6,78 +6,85 @@
 // `update` goes on from a register: it starts at 0xFFFF_FFFF, and its complement is the CRC-32.
 // Each takes any bytes of any number. The definition, bit by bit, is specs/Crc.antt.
 //
-// Eight bytes go through the table at once: the register is put into the first four, and each of the eight then has a row of its own. Every
-// private function here and in `table` has one caller, so that the compiler puts it in line: keep it so (docs/DECISIONS.md, CRC-32).
+// Eight bytes go through the table at once: the register is put into the first four, and each of the eight then has a row of its own.
 #![tactic(auto)]
 
-ghost use Rattle.std.specs.Prelude.{◌≡◌, ◌++◌, ◌+◌, ◌-◌, ◌≤◌, ◌<◌, length, get_or, take, drop};
-ghost use Rattle.fields.specs.Fields.{le_bytes, part};
-ghost use Rattle.crc32.specs.Crc.{crc_from, crc_of, crc_on};
+ghost use Rattle.std.specs.Prelude.{◌≡◌, ◌++◌, ◌-◌, ◌<◌, get_or, drop};
+ghost use Rattle.fields.specs.Fields.{le_bytes};
+ghost use Rattle.crc32.specs.Crc.{next, crc_from, crc_of, crc_on};
 
 mod table;
 
-use crate::table::{entry, low};
-use fields::inside::u32_at;
+use crate::table::entry;
+use fields::inside::number_at;
 
 // The register at the start, and what the register at the end is complemented by.
 const ONES: u32 = 0xffff_ffff;
 
-// The byte that a row is for: row 0 has the last of the eight bytes at i, row 7 the first. The first four are taken from x.
+// The byte that a row is for: row 0 has the last of the eight bytes, row 7 the first. The first four are taken from x.
 #[tactic(auto, using(crate::proofs::Rows::from_bytes, crate::proofs::Rows::from_number))]
-fn row_byte(x: u32, bytes: &[u8], i: usize, row: usize) -> u8
-    requires { (i + 8 ≤ length bytes.now) × (row < 8) }
-    ensures { result ≡ get_or (le_bytes 4 x ++ part 4 bytes.now (i + 4)) (7 - row) 0 }
+fn row_byte(x: u32, bytes: &[u8; 8], row: usize) -> u8
+    requires { row < 8 }
+    ensures { result ≡ get_or (le_bytes 4 x ++ drop 4 bytes.now) (7 - row) 0 }
 {
     if row < 4 {
-        bytes[i + 7 - row]
+        bytes[7 - row]
     } else {
         ((x >> (56 - 8 * row)) & 0xff) as u8
     }
 }
 
-// The register after the eight bytes at i. Rows go up, and so the bytes down: the last four don't wait for the register.
-fn eight(c: u32, bytes: &[u8], i: usize) -> u32
-    requires { i + 8 ≤ length bytes.now }
-    ensures { result ≡ crc_from c (take 8 (drop i bytes.now)) }
+// The register after eight bytes. Rows go up, and so the bytes down: the last four don't wait for the register.
+#[tactic(auto, using(crate::proofs::Rows::no_row, crate::proofs::Rows::one_row, crate::proofs::Rows::all_rows, crate::proofs::Xor::xor_small))]
+fn eight(c: u32, bytes: &[u8; 8]) -> u32
+    ensures { result ≡ crc_from c bytes.now }
 {
-    let x = c ^ u32_at(bytes, i);
+    let x = c ^ number_at::<u32>(bytes, 0);
     let mut r = 0;
-    let mut row = 0;
-    while row < 8 {
-        r ^= entry(256 * row + (row_byte(x, bytes, i, row) as usize));
-        row += 1;
+    for row in 0..8 {
+        r ^= entry(row, row_byte(x, bytes, row));
     }
     r
 }
 
-// The register after the bytes from a place on, one at a time.
-fn bytewise(state: u32, bytes: &[u8], from: usize) -> u32
-    requires { from ≤ length bytes.now }
-    ensures { result ≡ crc_from state (drop from bytes.now) }
+// The register after one byte.
+#[tactic(auto, using(crate::proofs::Rows::by_entry))]
+fn one(c: u32, byte: u8) -> u32
+    ensures { result ≡ next c byte }
+{
+    (c >> 8) ^ entry(0, ((c & 0xff) as u8) ^ byte)
+}
+
+// The register after the bytes, one at a time.
+#[tactic(auto, using(crate::proofs::Joined::from_none, crate::proofs::Joined::from_one_more))]
+fn bytewise(state: u32, bytes: &[u8]) -> u32
+    ensures { result ≡ crc_from state bytes.now }
 {
     let mut c = state;
-    let mut i = from;
-    while 0 < bytes.len() - i {
-        c = (c >> 8) ^ low(((c & 0xff) as u8) ^ bytes[i]);
-        i += 1;
+    for &byte in bytes {
+        c = one(c, byte);
     }
     c
 }
 
-// The register after the bytes, from the register before them.
+// The register after the bytes, from the register before them. It stays one function, which its callers call: put in line in a scan it takes
+// more instructions (docs/DECISIONS.md, CRC-32).
+#[inline(never)]
+#[tactic(auto, using(crate::proofs::Rows::eight_on))]
 pub fn update(state: u32, bytes: &[u8]) -> u32
     ensures { result ≡ crc_from state bytes.now }
 {
     let mut c = state;
-    let mut i = 0;
-    while 8 <= bytes.len() - i {
-        c = eight(c, bytes, i);
-        i += 8;
+    let mut left = bytes;
+    while let Some((first, rest)) = left.split_first_chunk::<8>() {
+        c = eight(c, first);
+        left = rest;
     }
-    bytewise(c, bytes, i)
+    bytewise(c, left)
 }
 
 // The CRC-32 of the bytes.
+#[tactic(auto, unfolding(crate::specs::Crc::crc_of))]
 pub fn crc32(bytes: &[u8]) -> u32
     ensures { result ≡ crc_of bytes.now }
 {
@@ -85,6 +92,7 @@ pub fn crc32(bytes: &[u8]) -> u32
 }
 
 // From the CRC-32 of some bytes, that of the same with more bytes after them.
+#[tactic(auto, unfolding(crate::specs::Crc::crc_on))]
 pub fn resume(crc: u32, bytes: &[u8]) -> u32
     ensures { result ≡ crc_on crc bytes.now }
 {

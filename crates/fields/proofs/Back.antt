@@ -1,6 +1,6 @@
 -- What was written is read back, at every width.
-use mathlib.Core.Path.{◌≡◌, refl, sym, ap₂, ◌∙◌}
-use mathlib.Core.List.{List, ◌∷◌}
+use mathlib.Core.Path.{◌≡◌, refl, sym, ap, ap₂, ◌∙◌}
+use mathlib.Core.List.{List, [], ◌∷◌}
 use Prim.Native.Nat.{ℕ, zero, suc, ◌+◌, ◌*◌, ◌/◌, ◌%◌, ◌^◌, ◌<◌}
 use native.Mathlib.Nat.{pow-suc, mod-one, mod-eq_of_lt}
 use native.Mathlib.Omega.{arith}
@@ -11,6 +11,11 @@ use Rattle.fields.specs.Fields.{le, le_bytes}
 pub pow_pos : (n : ℕ) → 0 < 256 ^ n
 pow_pos zero = lit< tt
 pow_pos (suc n) = let h = pow_pos n in rw (pow-suc 256 n) (omega arith)
+
+-- a byte is its own
+pub one_byte : (x : ℕ) → x < 256 → le_bytes 1 x ≡ x ∷ []
+unfolding le_bytes
+one_byte x h = ap (λ (b : ℕ). b ∷ []) (mod-eq_of_lt h)
 
 -- a byte in front moves a field by one
 pub le-cons : (n b : ℕ) (s : List ℕ) (p : ℕ) → le n (b ∷ s) (suc p) ≡ le n s p

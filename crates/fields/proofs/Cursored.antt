@@ -2,37 +2,22 @@
 -- Assumes nothing.
 use mathlib.Core.Path.{◌≡◌, refl, sym, ap, ◌∙◌}
 use mathlib.Core.Bool.{Bool, true, false}
-use mathlib.Core.List.{List, []}
-use Prim.Native.Nat.{ℕ, ◌+◌, ◌≤◌, ◌<◌}
+use mathlib.Core.List.{List}
+use Prim.Native.Nat.{ℕ, ◌+◌, ◌≤◌}
 use lib.ListN.{length}
-use borrow.Author.Tests.{le-leb, lt-leb, leb-true}
-use Rattle.fields.specs.Fields.{pick, le, part, fits, put}
-use Rattle.fields.specs.Cursors.{moved, taken, run_at, put_at, after}
-use Rattle.fields.specs.Holders.{write_place, wrote}
+use borrow.Author.Tests.{le-leb, leb-true}
+use Rattle.fields.specs.Fields.{pick, fits, put}
+use Rattle.fields.specs.Cursors.{moved, put_at, after}
 use Rattle.fields.specs.declared.Cursor.{Cursor}
-use Rattle.fields.specs.declared.writing.Writer.{Writer}
-use denote.Ref.{at_last}
 
 -- a test that is known picks
 pub picked {ℓ} : {A : Type ℓ} (t : Bool) (a b : A) → t ≡ true → a ≡ pick t a b
 picked t a b e = rw e
 
-pub passed {ℓ} : {A : Type ℓ} (t : Bool) (a b : A) → t ≡ false → b ≡ pick t a b
-passed t a b e = rw e
-
 -- n bytes stand at the cursor
 module _ (n : ℕ) (s : List ℕ) (c : Cursor) (h : c.at + n ≤ length s) where
   there : fits n s c.at ≡ true
   there = le-leb (c.at + n) (length s) h
-
-  pub takes : {A : Type 0} (value : ℕ → Cursor → A) (nothing : A) (x : ℕ) → x ≡ le n s c.at → value x (moved n c) ≡ taken n (value (le n s c.at)) nothing s c
-  takes value nothing x e = ap (λ (y : ℕ). value y (moved n c)) e ∙ picked (fits n s c.at) (value (le n s c.at) (moved n c)) nothing there
-
-  pub takes_run : {A : Type 0} (whole : Cursor → A) (nothing : A) → whole (moved n c) ≡ taken n whole nothing s c
-  takes_run whole nothing = picked (fits n s c.at) (whole (moved n c)) nothing there
-
-  pub hands_run : part n s c.at ≡ run_at n s c
-  hands_run = picked (fits n s c.at) (part n s c.at) [] there
 
   pub goes_after : moved n c ≡ after n s c
   goes_after = picked (fits n s c.at) (moved n c) c there
@@ -41,26 +26,6 @@ module _ (n : ℕ) (s : List ℕ) (c : Cursor) (h : c.at + n ≤ length s) where
   puts v l k e = (
     goes_after,
     e ∙ picked (fits (length v) s c.at) (put v s c.at) s (ap (λ (m : ℕ). fits m s c.at) k ∙ there),
-  )
-
--- fewer do
-module _ (n : ℕ) (s : List ℕ) (c : Cursor) (h : length s < c.at + n) where
-  short : fits n s c.at ≡ false
-  short = lt-leb (c.at + n) (length s) h
-
-  pub takes_nothing : {A : Type 0} (whole : Cursor → A) (nothing : A) → nothing ≡ taken n whole nothing s c
-  takes_nothing whole nothing = passed (fits n s c.at) (whole (moved n c)) nothing short
-
-  pub hands_nothing : [] ≡ run_at n s c
-  hands_nothing = passed (fits n s c.at) (part n s c.at) [] short
-
-  pub stays_after : c ≡ after n s c
-  stays_after = passed (fits n s c.at) (moved n c) c short
-
-  pub puts_nothing : (v : List ℕ) → length v ≡ n → (c ≡ after n s c) × (s ≡ put_at v s c)
-  puts_nothing v k = (
-    stays_after,
-    passed (fits (length v) s c.at) (put v s c.at) s (ap (λ (m : ℕ). fits m s c.at) k ∙ short),
   )
 
 -- ---- the list after a write at a cursor: with the bytes put, or as it was
@@ -76,11 +41,3 @@ either P v s c same changed = go (fits (length v) s c.at) refl
 -- a write that fits puts its bytes
 pub fitted : (v s : List ℕ) (c : Cursor) → fits (length v) s c.at ≡ true → put_at v s c ≡ put v s c.at
 fitted v s c e = sym (picked (fits (length v) s c.at) (put v s c.at) s e)
-
--- a writer whose n bytes v were put at its place, and whose place moved on by n, is the writer after v
-pub puts_wrote : (n : ℕ) (v l : List ℕ) (w : Writer) (d : Cursor) → length v ≡ n → d ≡ after n w.buffer.now (write_place w) → l ≡ put_at v w.buffer.now (write_place w)
-    → record { buffer = at_last w.buffer l; at = d.at } ≡ wrote v w
-puts_wrote n v l w d k e f =
-    let made : List ℕ → ℕ → Writer = λ l a. record { buffer = at_last w.buffer l; at = a } in
-    let s = w.buffer.now in
-    ap (λ (m : List ℕ). made m d.at) f ∙ ap (λ (m : Cursor). made (put_at v s (write_place w)) m.at) (e ∙ ap (λ (m : ℕ). after m s (write_place w)) (sym k))

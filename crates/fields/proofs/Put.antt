@@ -2,28 +2,26 @@
 -- Assumes nothing.
 use mathlib.Core.Path.{◌≡◌, refl, sym, ap, ap₂, ◌∙◌}
 use mathlib.Core.List.{List, [], ◌∷◌, ◌++◌, append_assoc, append-nil}
-use Prim.Native.Nat.{ℕ, zero, suc, ◌+◌, ◌*◌, ◌-◌, ◌/◌, ◌%◌, ◌^◌, ◌≤◌, ◌<◌}
+use Prim.Native.Nat.{ℕ, zero, suc, ◌+◌, ◌*◌, ◌-◌, ◌%◌, ◌^◌, ◌≤◌, ◌<◌}
 use native.Mathlib.Nat.{add-zero, add-suc, suc-add, zero-add, add_assoc}
 use native.Mathlib.Omega.{arith}
-use lib.ListN.{length, get_or, take, drop, set, replicate, length-append, length-replicate, replicate-append-replicate, drop_of_length-le, get_or-append}
-use lib.Seq.{paste, take-length, sets, sets-eq, length-sets, take_at, drop_at, take-take, take-add, take-append-le, drop-drop, length-take-le, get_or-take, get_or-drop, get_or-append-add}
+use native.Mathlib.Nat.{mod-eq_of_lt}
+use borrow.Rule.Slice.PartMut.{put_mid}
+use lib.ListN.{length, get_or, take, drop, set, length-append, drop_of_length-le, get_or-append}
+use lib.Seq.{sets, sets-eq, length-sets, take_at, drop_at, take-take, take-add, take-append-le, drop-drop, length-take-le, get_or-take, get_or-drop, get_or-append-add}
 use Rattle.fields.specs.Fields.{le, le_bytes, part, put}
 use Rattle.fields.proofs.Back.{le-bytes}
-use Rattle.fields.proofs.Widths.{le_bytes-length, le_bytes-cut, le_bytes-add}
+use Rattle.fields.proofs.Widths.{le_bytes-length}
 
 -- stores one after the other put the bytes
 pub sets_put : (v s : List ℕ) (p : ℕ) → p + length v ≤ length s → sets s p v ≡ put v s p
 unfolding put
 sets_put v s p h = sets-eq v s p h
 
--- what stores one after the other leave
-pub stores_put : (l v s : List ℕ) (p : ℕ) → p + length v ≤ length s → l ≡ sets s p v → l ≡ put v s p
-stores_put l v s p h e = e ∙ sets_put v s p h
-
--- and what a copy, byte by byte, leaves
-pub paste_put : (v s : List ℕ) (p : ℕ) → paste s p v (length v) ≡ put v s p
+-- and what a write to a part leaves
+pub mid_put : (p n : ℕ) (s v : List ℕ) → n ≡ length v → put_mid p n s v ≡ put v s p
 unfolding put
-paste_put v s p = ap (λ (l : List ℕ). take p s ++ l ++ drop (p + length v) s) (take-length v)
+mid_put p n s v e = rw (e, drop-drop) (sym (append_assoc (take p s) v (drop (p + length v) s)))
 
 pub put-length : (v s : List ℕ) (p : ℕ) → p + length v ≤ length s → length (put v s p) ≡ length s
 put-length v s p h = ap length (sym (sets_put v s p h)) ∙ length-sets s p v
@@ -69,7 +67,7 @@ put-part v s p h =
     (ap (take (length v)) (drop_at (take p s) (v ++ drop (p + length v) s) p (length-take-le p s h)) ∙ take_at v (drop (p + length v) s) (length v) refl)
 
 -- a field's bytes are those of the part that it stands in
-le-within : (m n : ℕ) (s : List ℕ) (p k : ℕ) → k + m ≤ n → le m (part n s p) k ≡ le m s (p + k)
+pub le-within : (m n : ℕ) (s : List ℕ) (p k : ℕ) → k + m ≤ n → le m (part n s p) k ≡ le m s (p + k)
 unfolding le
 le-within zero n s p k w = refl
 le-within (suc m) n s p k w =
@@ -100,19 +98,6 @@ put-put a b s p h =
     ∙ sym (sets_put b (sets s p a) (p + length a) two)
     ∙ sym (sets_append a b s p)
     ∙ sets_put (a ++ b) s p both
-
--- a number that is put in two fields, the lower one first
-pub put_halves : (n m x : ℕ) (s l t : List ℕ) (p : ℕ) → p + n + m ≤ length s → l ≡ put (le_bytes n (x % 256 ^ n)) s p → t ≡ put (le_bytes m (x / 256 ^ n)) l (p + n)
-    → t ≡ put (le_bytes (n + m) x) s p
-put_halves n m x s l t p h e f =
-    let low = le_bytes n x in
-    let high = le_bytes m (x / 256 ^ n) in
-    let size : length low ≡ n = le_bytes-length n x in
-    let room : p + length low + length high ≤ length s = omega (arith, le_bytes-length m (x / 256 ^ n)) in
-    f ∙ ap (λ (y : List ℕ). put high y (p + n)) (e ∙ ap (λ (b : List ℕ). put b s p) (le_bytes-cut n x))
-    ∙ ap (λ (k : ℕ). put high (put low s p) (p + k)) (sym size)
-    ∙ put-put low high s p room
-    ∙ ap (λ (b : List ℕ). put b s p) (sym (le_bytes-add n m x))
 
 -- bytes behind those that were put
 pub put_next : (a b s l t : List ℕ) (p k n : ℕ) → p + length a ≡ k → length b ≡ n → k + n ≤ length s → l ≡ put a s p → t ≡ put b l k → t ≡ put (a ++ b) s p
@@ -151,10 +136,6 @@ put_twice a b s p e h =
 pub set-put : (s : List ℕ) (p x : ℕ) → p < length s → set s p x ≡ put (x ∷ []) s p
 set-put s p x h = sets_put (x ∷ []) s p (omega arith)
 
--- a zero behind zeros
-pub put-zero : (s l : List ℕ) (p i : ℕ) → p + i < length s → l ≡ put (replicate i 0) s p → set l (p + i) 0 ≡ put (replicate (i + 1) 0) s p
-put-zero s l p i h e =
-    let size : length (replicate {A = ℕ} i 0) ≡ i = length-replicate i 0 in
-    let whole : length l ≡ length s = ap length e ∙ put-length (replicate i 0) s p (omega arith) in
-    put_next (replicate i 0) (0 ∷ []) s l (set l (p + i) 0) p (p + i) 1 (ap (λ (k : ℕ). p + k) size) refl (omega arith) e (set-put l (p + i) 0 (omega arith))
-    ∙ ap (λ (v : List ℕ). put v s p) (replicate-append-replicate i 1 0)
+-- and one store of a byte
+pub byte_put : (s : List ℕ) (p x : ℕ) → p < length s → x < 256 → set s p x ≡ put (x % 256 ∷ []) s p
+byte_put s p x h k = set-put s p x h ∙ ap (λ (b : ℕ). put (b ∷ []) s p) (sym (mod-eq_of_lt k))

@@ -2,28 +2,16 @@
 -- Assumes nothing.
 use mathlib.Core.Path.{◌≡◌, refl, sym, ap, ◌∙◌}
 use mathlib.Core.List.{List, ◌∷◌, ◌++◌}
-use Prim.Native.Nat.{ℕ, zero, suc, ◌+◌, ◌*◌, ◌/◌, ◌%◌, ◌^◌, ◌<◌}
-use native.Mathlib.Nat.{pow-suc, mod-lt, add-zero, add-suc, suc-add, zero-add, one-mul, div-one, pow-succ', div-div-eq-div-mul, mul_assoc}
+use Prim.Native.Nat.{ℕ, zero, suc, ◌+◌, ◌*◌, ◌/◌, ◌%◌, ◌^◌}
+use native.Mathlib.Nat.{add-zero, add-suc, suc-add, zero-add, one-mul, div-one, pow-succ', div-div-eq-div-mul, mul_assoc}
 use native.Mathlib.Omega.{arith}
-use lib.Arith.{mod-mul, digits_div, digits_mod}
-use lib.Dec.{lit<}
 use lib.ListN.{length}
 use Rattle.fields.specs.Fields.{le, le_bytes}
-use Rattle.fields.proofs.Back.{pow_pos}
 
 pub le_bytes-length : (n x : ℕ) → length (le_bytes n x) ≡ n
 unfolding le_bytes
 le_bytes-length zero x = refl
 le_bytes-length (suc n) x = ap suc (le_bytes-length n (x / 256))
-
--- what stands above the n bytes doesn't count
-pub le_bytes-cut : (n x : ℕ) → le_bytes n (x % 256 ^ n) ≡ le_bytes n x
-unfolding le_bytes
-le_bytes-cut zero x = refl
-le_bytes-cut (suc n) x =
-    let e : x % 256 ^ suc n ≡ (x / 256 % 256 ^ n) * 256 + x % 256 = rw (pow-suc 256 n) (mod-mul x (pow_pos n) (lit< tt)) in
-    let b : x % 256 < 256 = mod-lt x (lit< tt) in
-    rw (e, digits_mod (x / 256 % 256 ^ n) b, digits_div (x / 256 % 256 ^ n) b) (ap (λ (l : List ℕ). x % 256 ∷ l) (le_bytes-cut n (x / 256)))
 
 pub le_bytes-add : (n m x : ℕ) → le_bytes (n + m) x ≡ le_bytes n x ++ le_bytes m (x / 256 ^ n)
 unfolding le_bytes
@@ -37,3 +25,5 @@ le-add (suc n) m s p =
     let e = le-add n m s (suc p) in
     let k : suc p + n ≡ p + suc n = suc-add p n ∙ sym (add-suc p n) in
     rw (suc-add n m, e, k, pow-succ' 256 n, mul_assoc) (omega arith)
+
+pub ruleset sizes = (le_bytes-length)

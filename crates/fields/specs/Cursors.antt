@@ -3,10 +3,6 @@
 use Rattle.std.specs.Prelude.{ℕ, ◌+◌, List, [], length}
 use Rattle.fields.specs.Fields.{pick, part, fits, put}
 use Rattle.fields.specs.declared.Cursor.{Cursor}
-use Rattle.fields.specs.declared.TakenU8.{TakenU8}
-use Rattle.fields.specs.declared.TakenU16.{TakenU16}
-use Rattle.fields.specs.declared.TakenU32.{TakenU32}
-use Rattle.fields.specs.declared.TakenU64.{TakenU64}
 
 -- the cursor at the front
 abbrev pub at_front : Cursor
@@ -19,23 +15,6 @@ moved n c = record { at = c.at + n }
 -- reading n bytes: `whole` of the cursor after them, or `nothing` where fewer are left
 abbrev pub taken {ℓ} : {A : Type ℓ} (n : ℕ) (whole : Cursor → A) (nothing : A) → List ℕ → Cursor → A
 taken n whole nothing s c = pick (fits n s c.at) (whole (moved n c)) nothing
-
--- the number that was read, or 0 where nothing was
-abbrev pub or_zero_u8 : TakenU8 → ℕ
-or_zero_u8 (TakenU8.Value x c) = x
-or_zero_u8 TakenU8.Nothing = 0
-
-abbrev pub or_zero_u16 : TakenU16 → ℕ
-or_zero_u16 (TakenU16.Value x c) = x
-or_zero_u16 TakenU16.Nothing = 0
-
-abbrev pub or_zero_u32 : TakenU32 → ℕ
-or_zero_u32 (TakenU32.Value x c) = x
-or_zero_u32 TakenU32.Nothing = 0
-
-abbrev pub or_zero_u64 : TakenU64 → ℕ
-or_zero_u64 (TakenU64.Value x c) = x
-or_zero_u64 TakenU64.Nothing = 0
 
 -- the n bytes at the cursor, or none where fewer are left
 abbrev pub run_at : (n : ℕ) → List ℕ → Cursor → List ℕ

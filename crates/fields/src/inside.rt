@@ -1,75 +1,125 @@
-// For the layers above: fields whose caller has shown that they fit, and a bool as a number. No user needs this module.
-ghost use Rattle.std.specs.Prelude.{◌≡◌, [], ◌∷◌, ◌+◌, ◌≤◌, ◌<◌, length, replicate};
-ghost use Rattle.fields.specs.Fields.{bit_of, le, le_bytes, put};
+// For the layers above: numbers and runs of bytes whose caller has shown that they fit. No user needs this module.
+#![tactic(auto, using(crate::proofs::Put::mid_put, crate::proofs::Put::byte_put), unfolding(crate::specs::Fields::le, crate::specs::Fields::le_bytes))]
 
-// Yes is 1, no is 0.
-pub fn bit(yes: bool) -> u64
-    ensures { result ≡ bit_of yes }
-{
-    if yes { 1 } else { 0 }
+ghost use Rattle.std.specs.Prelude.{◌≡◌, ℕ, ◌+◌, ◌≤◌, length, replicate};
+ghost use Rattle.fields.specs.Fields.{le, le_bytes, put};
+
+// A number of a fixed size, whose bytes stand with the lowest first.
+pub trait Number: Copy {
+    // How many bytes it has.
+    const SIZE: usize;
+
+    ghost SIZE: { ℕ };
+
+    // The type's own for a number, and the number that it is.
+    ghost of: { ℕ → Self };
+
+    ghost value: { Self → ℕ };
+
+    // Reads it at a place.
+    fn read(s: &[u8], at: usize) -> Self
+        requires { at + SIZE ≤ length s.now }
+        ensures { result ≡ of (le SIZE s.now at) };
+
+    // Writes it at a place.
+    fn write(self, out: &mut [u8], at: usize)
+        requires { at + SIZE ≤ length out.old }
+        ensures { out.new ≡ put (le_bytes SIZE (value self)) out.old at };
 }
 
-// A byte, widened: its bound goes with it, so that no sum asks for it.
-fn wide(x: u8) -> u32
-    ensures { (result ≡ x) × (result < 256) }
-{
-    x as u32
+impl Number for u8 {
+    const SIZE: usize = 1;
+
+    ghost SIZE = { 1 };
+
+    ghost of = { λ x. x };
+
+    ghost value = { λ x. x };
+
+    fn read(s: &[u8], at: usize) -> u8 {
+        s[at]
+    }
+
+    fn write(self, out: &mut [u8], at: usize) {
+        out[at] = self;
+    }
 }
 
-pub(crate) fn u16_at(s: &[u8], at: usize) -> u16
-    requires { at + 2 ≤ length s.now }
-    ensures { result ≡ le 2 s.now at }
-{
-    (wide(s[at]) + wide(s[at + 1]) * 256) as u16
+impl Number for u16 {
+    const SIZE: usize = 2;
+
+    ghost SIZE = { 2 };
+
+    ghost of = { λ x. x };
+
+    ghost value = { λ x. x };
+
+    fn read(s: &[u8], at: usize) -> u16 {
+        u16::from_le_bytes([s[at], s[at + 1]])
+    }
+
+    fn write(self, out: &mut [u8], at: usize) {
+        out[at..at + 2].copy_from_slice(&self.to_le_bytes());
+    }
 }
 
-pub fn u32_at(s: &[u8], at: usize) -> u32
-    requires { at + 4 ≤ length s.now }
-    ensures { result ≡ le 4 s.now at }
-{
-    wide(s[at]) + wide(s[at + 1]) * 256 + wide(s[at + 2]) * 65536 + wide(s[at + 3]) * 16777216
+impl Number for u32 {
+    const SIZE: usize = 4;
+
+    ghost SIZE = { 4 };
+
+    ghost of = { λ x. x };
+
+    ghost value = { λ x. x };
+
+    fn read(s: &[u8], at: usize) -> u32 {
+        u32::from_le_bytes([s[at], s[at + 1], s[at + 2], s[at + 3]])
+    }
+
+    fn write(self, out: &mut [u8], at: usize) {
+        out[at..at + 4].copy_from_slice(&self.to_le_bytes());
+    }
 }
 
-pub fn u64_at(s: &[u8], at: usize) -> u64
-    requires { at + 8 ≤ length s.now }
-    ensures { result ≡ le 8 s.now at }
-{
-    let low = u32_at(s, at);
-    let high = u32_at(s, at + 4);
-    (low as u64) + (high as u64) * 4294967296
+impl Number for u64 {
+    const SIZE: usize = 8;
+
+    ghost SIZE = { 8 };
+
+    ghost of = { λ x. x };
+
+    ghost value = { λ x. x };
+
+    fn read(s: &[u8], at: usize) -> u64 {
+        u64::from_le_bytes([
+            s[at],
+            s[at + 1],
+            s[at + 2],
+            s[at + 3],
+            s[at + 4],
+            s[at + 5],
+            s[at + 6],
+            s[at + 7],
+        ])
+    }
+
+    fn write(self, out: &mut [u8], at: usize) {
+        out[at..at + 8].copy_from_slice(&self.to_le_bytes());
+    }
 }
 
-pub fn put_u8_at(out: &mut [u8], at: usize, x: u8)
-    requires { at + 1 ≤ length out.old }
-    ensures { out.new ≡ put (x ∷ []) out.old at }
+pub fn number_at<N: Number>(s: &[u8], at: usize) -> N
+    requires { at + N.SIZE ≤ length s.now }
+    ensures { result ≡ N.of (le N.SIZE s.now at) }
 {
-    out[at] = x;
+    N::read(s, at)
 }
 
-pub(crate) fn put_u16_at(out: &mut [u8], at: usize, x: u16)
-    requires { at + 2 ≤ length out.old }
-    ensures { out.new ≡ put (le_bytes 2 x) out.old at }
+pub fn put_number_at<N: Number>(out: &mut [u8], at: usize, x: N)
+    requires { at + N.SIZE ≤ length out.old }
+    ensures { out.new ≡ put (le_bytes N.SIZE (N.value x)) out.old at }
 {
-    out[at] = (x % 256) as u8;
-    out[at + 1] = (x / 256 % 256) as u8;
-}
-
-pub fn put_u32_at(out: &mut [u8], at: usize, x: u32)
-    requires { at + 4 ≤ length out.old }
-    ensures { out.new ≡ put (le_bytes 4 x) out.old at }
-{
-    out[at] = (x % 256) as u8;
-    out[at + 1] = (x / 256 % 256) as u8;
-    out[at + 2] = (x / 65536 % 256) as u8;
-    out[at + 3] = (x / 16777216 % 256) as u8;
-}
-
-pub fn put_u64_at(out: &mut [u8], at: usize, x: u64)
-    requires { at + 8 ≤ length out.old }
-    ensures { out.new ≡ put (le_bytes 8 x) out.old at }
-{
-    put_u32_at(out, at, (x % 4294967296) as u32);
-    put_u32_at(out, at + 4, (x / 4294967296) as u32);
+    x.write(out, at);
 }
 
 // Copies a run of bytes, each once.
@@ -77,11 +127,7 @@ pub fn put_run_at(out: &mut [u8], at: usize, bytes: &[u8])
     requires { at + length bytes.now ≤ length out.old }
     ensures { out.new ≡ put bytes.now out.old at }
 {
-    let mut i = 0;
-    while 0 < bytes.len() - i {
-        out[at + i] = bytes[i];
-        i += 1;
-    }
+    out[at..at + bytes.len()].copy_from_slice(bytes);
 }
 
 // Zeros, n of them.
@@ -89,9 +135,5 @@ pub fn put_zeros_at(out: &mut [u8], at: usize, n: usize)
     requires { at + n ≤ length out.old }
     ensures { out.new ≡ put (replicate n 0) out.old at }
 {
-    let mut i = 0;
-    while 0 < n - i {
-        out[at + i] = 0;
-        i += 1;
-    }
+    out[at..at + n].fill(0);
 }

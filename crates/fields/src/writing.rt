@@ -5,7 +5,7 @@ ghost use Rattle.fields.specs.Fields.{le_bytes};
 ghost use Rattle.fields.specs.Cursors.{at_front, run_at};
 ghost use Rattle.fields.specs.Holders.{writer_of, wrote};
 
-use crate::{Cursor, put_run, put_u8, put_u16, put_u32, put_u64, written};
+use crate::{Cursor, Number, put_number, put_run, written};
 
 // Writes fields front to back, never past the end: a field that doesn't fit is left out, and the place stays.
 #[derive(Drop)]
@@ -22,36 +22,12 @@ impl<'a> Writer<'a> {
         Writer { buffer, at: 0 }
     }
 
-    pub fn put_u8(&mut self, x: u8)
-        ensures { self.new ≡ wrote (le_bytes 1 x) self.old }
+    #[tactic(auto, using(crate::proofs::Widths::sizes))]
+    pub fn put_number<N: Number>(&mut self, x: N)
+        ensures { self.new ≡ wrote (le_bytes N.SIZE (N.value x)) self.old }
     {
         let c = Cursor { at: self.at };
-        let next = put_u8(&mut *self.buffer, c, x);
-        self.at = next.at;
-    }
-
-    pub fn put_u16(&mut self, x: u16)
-        ensures { self.new ≡ wrote (le_bytes 2 x) self.old }
-    {
-        let c = Cursor { at: self.at };
-        let next = put_u16(&mut *self.buffer, c, x);
-        self.at = next.at;
-    }
-
-    pub fn put_u32(&mut self, x: u32)
-        ensures { self.new ≡ wrote (le_bytes 4 x) self.old }
-    {
-        let c = Cursor { at: self.at };
-        let next = put_u32(&mut *self.buffer, c, x);
-        self.at = next.at;
-    }
-
-    pub fn put_u64(&mut self, x: u64)
-        ensures { self.new ≡ wrote (le_bytes 8 x) self.old }
-    {
-        let c = Cursor { at: self.at };
-        let next = put_u64(&mut *self.buffer, c, x);
-        self.at = next.at;
+        self.at = put_number(&mut *self.buffer, c, x).at;
     }
 
     // A run of bytes.
@@ -59,8 +35,7 @@ impl<'a> Writer<'a> {
         ensures { self.new ≡ wrote bytes.now self.old }
     {
         let c = Cursor { at: self.at };
-        let next = put_run(&mut *self.buffer, c, bytes);
-        self.at = next.at;
+        self.at = put_run(&mut *self.buffer, c, bytes).at;
     }
 
     // What was written: all bytes before the place.

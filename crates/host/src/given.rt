@@ -1,7 +1,7 @@
 // What a host hands in, as the layers below take it, and what they answer, as it gets it.
 ghost use Rattle.std.specs.Prelude.{◌≡◌, true, false, MatchResult};
 ghost use Rattle.refusals.specs.declared.Reason.TheVariants.{Unknown};
-ghost use Rattle.host.specs.Host.{known, rule_by, made_of};
+ghost use Rattle.host.specs.Host.{known, rule_by, made_of, code_of};
 ghost use Rattle.host.specs.Writing.{is_record_kind, kind_by, letters_by, code_by, header_by, is_yes_no, slot_by, images_by, slots_of};
 
 use crate::{Code, Counters, Made, Slots};
@@ -55,6 +55,18 @@ impl From<Code> for MsgType {
         MsgType {
             bytes,
             len: letters_by(code.letters),
+        }
+    }
+}
+
+impl From<MsgType> for Code {
+    ghost from_gives = { λ m r. r ≡ code_of m };
+
+    fn from(code: MsgType) -> Code {
+        let bytes = code.bytes;
+        Code {
+            letters: code.len as u64,
+            bytes,
         }
     }
 }

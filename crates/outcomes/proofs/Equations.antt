@@ -129,3 +129,23 @@ module _ {M : Type 1} {T : Ended} (R : Result T) (L : Lent T) (f : (κs : Lives 
         (λ g r ws. via 𝓤 _ (pairs 𝓤 (R.view.see κs r ≡ f κs a) (L.read κs (at_exit T κs a ws) ≡ l κs a))
         (fact_mono 𝓤 _ _ (λ e. (e.0 ∙ sym (R.seen κs (f κs a)), L.all κs a ws ∙ ap (L.last κs a) e.1))));
   }
+
+-- ---- a function of every type N: what its caller brings is one fact, that N's values live as long as the call. Where it holds, nothing is brought
+module _ {M : Type 1} {T : Ended} (F : Lives T → Type 0) (holds : (κs : Lives T) → F κs) where
+  abbrev bringing : Stated M T → Stated M T
+  bringing C 𝓤 𝓛 mem run κs a =
+      let c = C 𝓤 𝓛 mem run κs a in
+      record { ghost = c.ghost; requires = λ g. sep 𝓤 (fact 𝓤 (F κs)) (c.requires g); ensures = c.ensures }
+
+  pub at_every_type : {C : Stated M T} {v : View T} → OneOutcome M T C (closed T C) v → OneOutcome M T (bringing C) (closed T (bringing C)) v
+  at_every_type {C = C} law = record {
+    proved = λ 𝓤 𝓛 mem run. refl;
+    one = λ 𝓤 𝓛 mem run κs a.
+        let c = C 𝓤 𝓛 mem run κs a in
+        let o = law.one 𝓤 𝓛 mem run κs a in
+        record {
+          free = (o.free.0, via 𝓤 (sep 𝓤 (emp 𝓤) (emp 𝓤)) (emp∗ 𝓤 (emp 𝓤)) (mono∗ 𝓤 (fact_i 𝓤 (F κs) (emp 𝓤) (holds κs)) o.free.1));
+          some = o.some;
+          no_second = o.no_second;
+        };
+  }

@@ -164,7 +164,7 @@ fn placed(w: [u8; 43]) -> [u8; 45] {
 
 // The first n bytes.
 fn cut(s: &[u8], n: usize) -> &[u8] {
-    fields::run(s, fields::front(), n)
+    fields::run(s, fields::FRONT, n)
 }
 
 fn looks(rt: &impl Print, s: &[u8]) -> io::Result<()> {

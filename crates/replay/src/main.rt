@@ -10,71 +10,36 @@ mod records;
 use std::io;
 use std::io::Read;
 
-// The next request, at the start of the buffer: its length, or 0 where none follows.
-fn receive(input: &mut impl Read, request: &mut [u8]) -> usize {
+// The next request, at the start of the buffer; nothing where none follows.
+fn receive<'a>(input: &mut impl Read, buffer: &'a mut [u8]) -> Option<&'a [u8]> {
     let mut head = [0u8; 4];
-    if input.read_exact(&mut head).is_err() {
-        return 0;
-    }
-    let n = operations::length_of(head);
-    if request.len() < n {
-        return 0;
-    }
-    if input.read_exact(&mut request[0..n]).is_err() {
-        return 0;
-    }
-    n
+    input.read_exact(&mut head).ok()?;
+    let request = buffer.get_mut(..u32::from_le_bytes(head) as usize)?;
+    input.read_exact(request).ok()?;
+    Some(request)
 }
 
 fn send(rt: &impl Print, answer: &[u8]) -> io::Result<()> {
-    let mut head = [0u8; 4];
-    fields::put_u32(
-        &mut head,
-        fields::front(),
-        (answer.len() % 4294967296) as u32,
-    );
-    rt.write_all(&head)?;
+    let head = (answer.len() % 4294967296) as u32;
+    rt.write_all(&head.to_le_bytes())?;
     rt.write_all(answer)
 }
 
-// One request: whether it was answered.
-fn turn(
-    rt: &impl Print,
-    input: &mut impl Read,
-    request: &mut [u8],
-    answer: &mut [u8],
-) -> io::Result<bool> {
-    let n = receive(input, request);
-    if n == 0 {
-        return Ok(false);
-    }
-    if request.len() < n {
-        return Ok(false);
-    }
-    let m = operations::respond(&request[0..n], answer);
-    if m == 0 {
-        return Ok(false);
-    }
-    if answer.len() < m {
-        return Ok(false);
-    }
-    send(rt, &answer[0..m])?;
-    Ok(true)
-}
-
+// Answers requests until none follows, or one isn't a request.
 fn serve(
     rt: &impl Print,
     input: &mut impl Read,
     request: &mut [u8],
-    answer: &mut [u8],
+    out: &mut [u8],
 ) -> io::Result<()> {
-    let mut left: u64 = 0xffff_ffff_ffff_ffff;
-    while 0 < left {
-        if turn(rt, input, request, answer)? {
-            left -= 1;
-        } else {
-            left = 0;
-        }
+    for _ in 0..u64::MAX {
+        let Some(request) = receive(input, request) else {
+            break;
+        };
+        let Some(answer) = operations::respond(request, out).and_then(|n| out.get(..n)) else {
+            break;
+        };
+        send(rt, answer)?;
     }
     Ok(())
 }

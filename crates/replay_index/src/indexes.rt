@@ -1,51 +1,38 @@
 // An index in a request and in an answer: its room, a u32, then so many entries of message number, offset and body length.
-ghost use Rattle.std.specs.Prelude.{◌≤◌, ◌<◌};
+ghost use Rattle.std.specs.Prelude.{◌≤◌, IfSome};
 
-use fields::Cursor;
+use fields::{Reader, Writer};
 use index::Entry;
 
-// The entry at a place.
-pub(crate) fn entry_at(request: &[u8], at: usize) -> Entry
-    requires { at < 1048576 }
-{
-    Entry {
-        number: framed::u64_at(request, at),
-        offset: framed::u64_at(request, at + 8),
-        body: framed::u64_at(request, at + 16),
-    }
+pub(crate) fn entry(from: &mut Reader) -> Option<Entry> {
+    Some(Entry {
+        number: from.number()?,
+        offset: from.number()?,
+        body: from.number()?,
+    })
 }
 
-// The room of the index at a place; above 1,024 it is 1,025.
-pub(crate) fn room_at(request: &[u8], at: usize) -> usize
-    ensures { result ≤ 1025 }
+// The entries, with zeros behind them, and the room, at most 1,024.
+pub(crate) fn index(from: &mut Reader) -> Option<([Entry; 1024], usize)>
+    ensures { IfSome result (λ p. p.1 ≤ 1024) }
 {
-    let room = framed::u32_at(request, at) as usize;
-    if 1024 < room { 1025 } else { room }
-}
-
-// The first `room` entries are those at the place, the others zeros.
-pub(crate) fn entries_at(request: &[u8], at: usize, room: usize) -> [Entry; 1024]
-    requires { (at < 1024) × (room ≤ 1024) }
-{
+    let room = from.number::<u32>()? as usize;
     let mut entries = [Entry::default(); 1024];
-    for (i, entry) in entries[..room].iter_mut().enumerate() {
-        *entry = entry_at(request, at + 24 * i);
+    for place in entries.get_mut(..room)? {
+        *place = entry(from)?;
     }
-    entries
+    Some((entries, room))
 }
 
 // Message number, offset, body length.
-pub(crate) fn put_entry(out: &mut [u8], c: Cursor, entry: Entry) -> Cursor {
-    framed::put_counters(out, c, entry.number, entry.offset, entry.body)
+pub(crate) fn put_entry(to: &mut Writer, entry: Entry) {
+    framed::put_counters(to, entry.number, entry.offset, entry.body);
 }
 
 // The room, and the first `room` entries.
-pub(crate) fn put_index(out: &mut [u8], c: Cursor, entries: [Entry; 1024], room: usize) -> Cursor
-    requires { room ≤ 1024 }
-{
-    let mut next = fields::put_u32(out, c, room as u32);
-    for entry in &entries[..room] {
-        next = put_entry(out, next, *entry);
+pub(crate) fn put_index(to: &mut Writer, entries: [Entry; 1024], room: usize) {
+    framed::put_length(to, room);
+    for entry in entries.iter().take(room) {
+        put_entry(to, *entry);
     }
-    next
 }

@@ -1,31 +1,27 @@
 // The operations of the oracle's protocol (oracle/README.md) on fields, and the check program's: each takes the request apart, calls the
-// port, and writes all that it left. The result is the answer's length, or 0 for a request that isn't one.
+// port, and writes all that it left. The result is the answer's length, or nothing for a request that isn't one.
 #![tactic(auto)]
 
 mod cursors;
 
-use fields::Cursor;
+use fields::Reader;
 
-pub fn respond(request: &[u8], out: &mut [u8]) -> usize {
-    match framed::u8_at(request, 0) {
-        13 => check(request, out),
-        14 => cursors::take(request, out),
-        15 => cursors::put(request, out),
-        _ => 0,
+// Answers the request, if its operation is one of these.
+pub fn respond(request: &[u8], out: &mut [u8]) -> Option<usize> {
+    let mut from = Reader::new(request);
+    match from.number::<u8>()? {
+        13 => check(from, out),
+        14 => cursors::take(from, out),
+        15 => cursors::put(from, out),
+        _ => None,
     }
 }
 
 // The text stands behind the answer's head, 13 bytes, and is written there.
-fn check(request: &[u8], out: &mut [u8]) -> usize {
-    let input = framed::run(request, Cursor { at: 1 });
-    if !framed::last(request, input) {
-        return 0;
-    }
-    if out.len() < 13 {
-        return 0;
-    }
-    let n = report::report(fields::run(request, input.start, input.len), &mut out[13..]);
-    let c = framed::begin(out, 0, 0);
-    fields::put_u32(out, c, (n % 4294967296) as u32);
-    13 + n
+fn check(from: Reader, out: &mut [u8]) -> Option<usize> {
+    let input = framed::last_run(from)?;
+    let n = report::report(input, out.get_mut(13..)?);
+    let mut to = framed::begin(out, 0, 0);
+    framed::put_length(&mut to, n);
+    Some(13 + n)
 }

@@ -1,23 +1,34 @@
 -- What a request's report is, by its own refusal, and by what the scan of its journal comes to.
 -- Assumes nothing.
-use mathlib.Core.Path.{◌≡◌, sym, ap, ◌∙◌}
-use mathlib.Core.List.{List}
-use Prim.Native.Nat.{ℕ}
-use lib.ListN.{replicate, length-replicate}
-use lib.Dec.{lit≤}
+use mathlib.Core.Path.{◌≡◌, sym, ap, ap₂, ◌∙◌}
+use mathlib.Core.List.{List, ◌++◌}
+use Prim.Native.Nat.{ℕ, min}
+use lib.ListN.{length, take, replicate}
 use borrow.Author.Tests.{eq-eqb, ne_eqb}
+use Rattle.std.specs.Prelude.{Result, Ok, Err}
+use Rattle.refusals.specs.declared.Refusal.{Refusal}
+use Rattle.refusals.specs.Refusals.{number_in}
+use Rattle.index.specs.declared.Entry.{Entry}
 use Rattle.index.specs.Insert.{none}
 use Rattle.journal.specs.declared.Rule.{Rule}
+use Rattle.journal.specs.declared.answers.Scan.{Scan}
 use Rattle.journal.specs.Scan.{scan_of, index_after}
-use Rattle.held.specs.declared.Scanned.{Scanned}
-use Rattle.held.specs.Held.{held_scan}
-use Rattle.held.proofs.Whole.{scan_whole}
 use Rattle.report.specs.Request.{rule_in, limit_in, journal_in, request_fault}
-use Rattle.report.specs.Report.{refused_line, scan_text, scanned_text, report_of}
+use Rattle.report.specs.Report.{open_line, refused_line, entry_lines, scan_text, scanned_text, report_of}
+use Rattle.report.proofs.Listed.{lines_all}
 
--- the lines of what was found in an index of 1,024 entries
-pub scanned-text : (limit : ℕ) (rule : Rule) (s : List ℕ) (r : Scanned) → r ≡ held_scan limit rule 1024 s (replicate 1024 none) → scan_text (scan_of limit rule 1024 s) (index_after limit (replicate 1024 none) s) ≡ scan_text r.scan r.entries
-scanned-text limit rule s r e = sym (ap (λ (x : Scanned). scan_text x.scan x.entries) (e ∙ scan_whole limit rule 1024 s (replicate 1024 none) (rw length-replicate (lit≤ tt))))
+-- the text of an opened journal, as far as its entries are counted, and that of a refused one
+pub told_open : (x y : Result Scan Refusal) (es left : List Entry) (found : Scan) (k : ℕ) → y ≡ x → left ≡ es → y ≡ Ok found → length left ≡ 1024 → k ≡ min found.count 1024
+    → scan_text x es ≡ open_line found ++ entry_lines (take k left)
+unfolding scan_text
+told_open x y es left found k e i o size m =
+    sym (ap₂ scan_text e i)
+    ∙ ap (λ (v : Result Scan Refusal). scan_text v left) o
+    ∙ ap (λ (t : List ℕ). open_line found ++ t) (lines_all left found.count size ∙ ap (λ (n : ℕ). entry_lines (take n left)) (sym m))
+
+pub told_refused : (x y : Result Scan Refusal) (es left : List Entry) (r : Refusal) (n : ℕ) → y ≡ x → left ≡ es → y ≡ Err r → n ≡ number_in r.reason → scan_text x es ≡ refused_line n r.place
+unfolding scan_text
+told_refused x y es left r n e i o m = sym (ap₂ scan_text e i) ∙ ap (λ (v : Result Scan Refusal). scan_text v left) o ∙ ap (λ (k : ℕ). refused_line k r.place) (sym m)
 
 pub refused_report : (i : List ℕ) (n : ℕ) → n ≡ request_fault i → (request_fault i ≡ 0 → ⊥) → report_of i ≡ refused_line n 0
 unfolding report_of

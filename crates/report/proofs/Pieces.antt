@@ -33,7 +33,7 @@ ends_behind : (a b n at : ℕ) → at + min a (n - at) + min b (n - (at + min a 
 ends_behind a b n at = omega arith
 
 -- one text behind another is printed after it
-pub printed_both : (a b : List ℕ) (p : Printer) → printed (a ++ b) p ≡ printed b (printed a p)
+printed_both : (a b : List ℕ) (p : Printer) → printed (a ++ b) p ≡ printed b (printed a p)
 unfolding printed
 printed_both a b p =
     let s = p.out.now in
@@ -42,9 +42,13 @@ printed_both a b p =
     = omega (arith, length-append a b, length-sets s p.at a) in
     ap₂ made (sym (stored-behind a b s p.at)) places
 
+-- a piece that was printed behind what was: they are one piece
+pub wrote_both : (a b : List ℕ) (p q r : Printer) → Prints a p q → Prints b q r → Prints (a ++ b) p r
+wrote_both a b p q r x y = record { is = y.is ∙ ap (printed b) x.is ∙ sym (printed_both a b p) }
+
 infixl 5 ◌then◌
 pub ◌then◌ : {a b : List ℕ} {p q r : Printer} → Prints a p q → Prints b q r → Prints (a ++ b) p r
-◌then◌ {a = a} {b = b} {p = p} x y = record { is = y.is ∙ ap (printed b) x.is ∙ sym (printed_both a b p) }
+x then y = wrote_both _ _ _ _ _ x y
 
 -- the same text by another name
 pub printed_as : {t u : List ℕ} {p q : Printer} → Prints t p q → u ≡ t → Prints u p q
@@ -96,13 +100,14 @@ cut-over t s h =
 laid-over : (t s : List ℕ) → sets s 0 t ≡ over t s
 laid-over t s = min_cases (length t) (length s) (sets s 0 t ≡ over t s) (λ h _. whole_over t s h) (λ h _. cut-over t s h)
 
--- all of a text, printed from the front on: the place behind it, and the buffer's last bytes, where the printer still has the borrow that it began with
-pub printed_size : (x : MutBor (List ℕ)) (t : List ℕ) (p q : Printer) → p ≡ printer_of x → Prints t p q → q.at ≡ min (length t) (length x.now)
+-- all of a text, printed from the front on: the place behind it, and the buffer with the text laid over it
+pub wrote_all : (x : MutBor (List ℕ)) (t : List ℕ) (p q : Printer) → p ≡ printer_of x → Prints t p q → (q.at ≡ min (length t) (length x.now)) × (q.out.now ≡ over t x.now)
 unfolding printed
-printed_size x t p q e y = ap (λ (u : Printer). u.at) (y.is ∙ ap (printed t) e) ∙ omega arith
-
-pub printed_all : (x : MutBor (List ℕ)) (t last : List ℕ) (p q : Printer) → p ≡ printer_of x → Prints t p q → (x.ghost_name ≡ q.out.ghost_name → last ≡ q.out.now) → last ≡ over t x.now
-unfolding printed
-printed_all x t last p q e y ends =
+wrote_all x t p q e y =
     let all = y.is ∙ ap (printed t) e in
-    ends (sym (ap (λ (u : Printer). u.out.ghost_name) all)) ∙ ap (λ (u : Printer). u.out.now) all ∙ laid-over t x.now
+    (ap (λ (u : Printer). u.at) all ∙ omega arith, ap (λ (u : Printer). u.out.now) all ∙ laid-over t x.now)
+
+-- the buffer's last bytes: the printer still has the borrow that it began with
+pub last_bytes : (x : MutBor (List ℕ)) (t last : List ℕ) (p q : Printer) → p ≡ printer_of x → Prints t p q → (x.ghost_name ≡ q.out.ghost_name → last ≡ q.out.now) → last ≡ over t x.now
+unfolding printed
+last_bytes x t last p q e y ends = ends (sym (ap (λ (u : Printer). u.out.ghost_name) (y.is ∙ ap (printed t) e))) ∙ (wrote_all x t p q e y).1

@@ -21,7 +21,6 @@ ghost use Rattle.report.specs.Text.{over};
 
 use crate::requests::Request;
 use crate::words::Printer;
-use held::within;
 use index::Entry;
 
 mod lines;
@@ -33,13 +32,11 @@ impl<'a> Printer<'a> {
     fn put_scan(&mut self, request: Request)
         ensures { Prints (scan_text (scan_of request.entry.limit request.entry.rule 1024 request.entry.journal.now) (index_after request.entry.limit (replicate 1024 none) request.entry.journal.now)) self.old self.new }
     {
-        let entries = [Entry::default(); 1024];
-        let scanned = held::scan(request.journal, request.rule, request.limit, entries, 1024);
-        let filed = scanned.entries;
-        match scanned.scan {
+        let mut entries = [Entry::default(); 1024];
+        match journal::scan(request.journal, request.rule, request.limit, &mut entries) {
             Ok(found) => {
                 self.put_open(found);
-                self.put_entries(&filed[..within(found.count)]);
+                self.put_entries(&entries[..found.count.min(1024)]);
             }
             Err(refusal) => self.put_refused(refusal.reason.number(), refusal.place),
         }

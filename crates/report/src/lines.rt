@@ -3,7 +3,6 @@ ghost use Rattle.report.specs.Report.{cut_text, counters_text, slot_text, open_l
 ghost use Rattle.report.specs.Steps.{Prints};
 
 use crate::words::Printer;
-use fields::inside::bit;
 use index::Entry;
 use journal::answers::Scan;
 use journal::Cut;
@@ -37,8 +36,8 @@ impl<'a> Printer<'a> {
         ensures { Prints (slot_text found) self.old self.new }
     {
         self.put_field(b" active=", found.active as u64);
-        self.put_field(b" stale=", bit(found.stale));
-        self.put_field(b" reset=", bit(found.reset));
+        self.put_field(b" stale=", u64::from(found.stale));
+        self.put_field(b" reset=", u64::from(found.reset));
         self.put_field(b" watermark=", found.watermark);
         self.put_field(b" boundary=", found.boundary);
     }

@@ -3,7 +3,7 @@ ghost use Rattle.std.specs.Prelude.{◌≡◌, ◌<◌, length, MatchResult};
 ghost use Rattle.refusals.specs.declared.Reason.TheVariants.{LongJournal};
 ghost use Rattle.report.specs.Steps.{Asks, Made, Refuses};
 
-use fields::inside::u64_at;
+use fields::inside::number_at;
 use journal::Rule;
 use refusals::Reason;
 
@@ -22,17 +22,17 @@ impl<'a> Request<'a> {
     {
         match input.first().copied() {
             Some(1) if 17 <= input.len() => {
-                let records = u64_at(input, 1);
-                Request::of(Rule::Tail { records }, u64_at(input, 9), &input[17..])
+                let records = number_at(input, 1);
+                Request::of(Rule::Tail { records }, number_at(input, 9), &input[17..])
             }
             Some(2) if 9 <= input.len() => Request::of(
                 Rule::Anywhere,
-                u64_at(input, 1),
+                number_at(input, 1),
                 &input[9..],
             ),
             Some(3) if 9 <= input.len() => Request::of(
                 Rule::Salvage,
-                u64_at(input, 1),
+                number_at(input, 1),
                 &input[9..],
             ),
             _ => Err(Reason::Unknown),

@@ -2,13 +2,12 @@
 -- through all of them. The measure is how many are left; fewer than eight are left to `bytewise`.
 -- Assumes nothing.
 use mathlib.Core.Path.{◌≡◌}
-use Prim.Native.Nat.{◌-◌, ◌≤◌}
-use lib.ListN.{length, drop}
+use lib.ListN.{length}
 use Rattle.crc32.specs.Crc.{crc_from}
 use Rattle.crc32.proofs.update.Given as goal
 
-abbrev pub invariant-loop-i : goal.invariant-loop-i
-invariant-loop-i l = (l.i ≤ length l.bytes) × (crc_from l.c (drop l.i l.bytes) ≡ crc_from l.state l.bytes)
+abbrev pub invariant-loop-first : goal.invariant-loop-first
+invariant-loop-first l = crc_from l.c l.left ≡ crc_from l.state l.bytes
 
-abbrev pub decreases-loop-i : goal.decreases-loop-i
-decreases-loop-i l = length l.bytes - l.i
+abbrev pub decreases-loop-first : goal.decreases-loop-first
+decreases-loop-first l = length l.left

@@ -11,7 +11,7 @@ use Rattle.record.specs.Write.{body_front, body_bytes, record_bytes}
 use Rattle.journal.specs.declared.Rule.TheVariants.{Tail, Anywhere, Salvage}
 use Rattle.journal.specs.declared.Cut.TheVariants.{None, Damaged}
 use Rattle.edges.specs.Samples.{slot, slot_laid, image_of, image4, image_last3, image_last2, prefix_laid, at12287, at12288, at12289, at12300}
-use Rattle.edges.specs.Samples.{body1, with_crc, four, wrong_crc, wrong_complement, head, newest, scan, refuses, opens, says_by, says_of}
+use Rattle.edges.specs.Samples.{body1, with_crc, four, wrong_crc, wrong_complement, head, newest, scan, refuses, opens, says_of}
 use Rattle.edges.specs.Samples.{says}
 
 -- the number that refuses two slots of generation 4: one with the sender 7, target 9, durable end 12,288, watermark 0 and no reset owed, and one
@@ -78,7 +78,7 @@ edges :
     × (length (record_bytes (body_bytes (Counter 50) 2 0 (0x44 ∷ []) four)) ≡ 43))
     -- CRC of nothing is 0
     × (crc_of [] ≡ 0)
-unfolding slot_laid image_of prefix_laid body1 with_crc head newest scan says_by says_of against le_bytes crc_from crc_of body_front body_bytes record_bytes
+unfolding slot_laid image_of prefix_laid body1 with_crc head newest scan says_of against le_bytes crc_from crc_of body_front body_bytes record_bytes
     one_on fresh_slots fresh_next
 edges = (
   refl,

@@ -1,30 +1,31 @@
 -- A reader that refuses everything is shut out by demand 3: whoever opens exactly the journals with a permitted end opens one.
 -- Assumes nothing.
-use Rattle.std.specs.Prelude.{ℕ, zero, suc, ◌≤◌, ◌≡◌, refl, Bool, true, false, ◌&&◌, List, [], ◌∷◌, ◌↔◌, length, ltb}
+use Rattle.std.specs.Prelude.{ℕ, zero, suc, ◌≤◌, ◌≡◌, refl, Bool, true, false, ◌&&◌, List, [], ◌∷◌, ◌↔◌, length, ltb, Result, Ok, Err, IsOk}
 use Rattle.std.proofs.Common.{arith, ltb-true}
 use Rattle.fields.specs.Fields.{max64}
+use Rattle.refusals.specs.declared.Refusal.{Refusal}
+use Rattle.refusals.specs.Refusals.{refusal}
 use Rattle.journal.specs.declared.Rule.{Rule}
 use Rattle.journal.specs.declared.Rule.TheVariants.{Tail}
-use Rattle.journal.specs.declared.Answer.TheVariants.{Open}
 use Rattle.journal.specs.declared.answers.Scan.{Scan}
-use Rattle.journal.specs.Scan.{refused, scan_of}
+use Rattle.journal.specs.Scan.{scan_of}
 use Rattle.journal.specs.Demand3.{Premises, EndsAt}
-use Rattle.journal.proofs.Opens.{demand3}
+use Rattle.journal.proofs.Opens.{ok_value, demand3}
 use Rattle.journal.proofs.PremisesMet.{Bytes, premises_met, permitted_end}
 use Rattle.edges.specs.Samples.{prefix_laid, at12288, scan}
 
 -- a reader: what it answers to a body limit, a rule, the room of the index and a journal
 abbrev pub Reader : Type 0
-Reader = (limit : ℕ) → Rule → (room : ℕ) → List ℕ → Scan
+Reader = (limit : ℕ) → Rule → (room : ℕ) → List ℕ → Result Scan Refusal
 
 -- demand 3, said of any reader: under the premises it opens a journal exactly if the journal has a permitted end
 abbrev pub Demand3Of : Reader → Type 0
 Demand3Of scan =
-    (limit N room : ℕ) (s : List ℕ) → Premises limit room s → ((scan limit (Tail N) room s).answer ≡ Open) ↔ ((e : ℕ) × EndsAt limit N s e)
+    (limit N room : ℕ) (s : List ℕ) → Premises limit room s → IsOk (scan limit (Tail N) room s) ↔ ((e : ℕ) × EndsAt limit N s e)
 
 -- it opens no journal under Tail
 abbrev pub RefusesAll : Reader → Type 0
-RefusesAll scan = (limit N room : ℕ) (s : List ℕ) → (scan limit (Tail N) room s).answer ≡ Open → ⊥
+RefusesAll scan = (limit N room : ℕ) (s : List ℕ) → IsOk (scan limit (Tail N) room s) → ⊥
 
 -- every element of a list is a byte, as a test
 unfoldable all_bytes : List ℕ → Bool
@@ -58,25 +59,27 @@ smallest_bytes : Bytes smallest
 unfolding smallest prefix_laid all_bytes
 smallest_bytes = bytes_of smallest refl
 
-smallest_opens : (scan_of 100 (Tail 1) 0 smallest).answer ≡ Open
+smallest_opens : IsOk (scan_of 100 (Tail 1) 0 smallest)
 unfolding smallest prefix_laid scan
 smallest_opens = refl
 
+smallest_scan : (x : Scan) × (scan_of 100 (Tail 1) 0 smallest ≡ Ok x)
+smallest_scan = ok_value (scan_of 100 (Tail 1) 0 smallest) smallest_opens
+
 smallest_premises : Premises 100 0 smallest
-smallest_premises = premises_met 100 1 0 smallest smallest_small smallest_bytes smallest_opens
+smallest_premises = premises_met 100 1 0 smallest smallest_small smallest_bytes smallest_scan.0 smallest_scan.1
 
 smallest_ends : (e : ℕ) × EndsAt 100 1 smallest e
-smallest_ends = permitted_end 100 1 0 smallest smallest_small smallest_bytes smallest_opens
+smallest_ends = permitted_end 100 1 0 smallest smallest_small smallest_bytes smallest_scan.0 smallest_scan.1
 
 -- a reader that demand 3 holds of doesn't refuse everything
 pub refuser_shut_out : (scan : Reader) → Demand3Of scan → RefusesAll scan → ⊥
 refuser_shut_out scan holds refuses = refuses 100 1 0 smallest ((holds 100 1 0 smallest smallest_premises).1 smallest_ends)
 
 -- by name: the reader that answers everything with the same refusal
-pub constant_refuser_shut_out : (number place : ℕ) → Demand3Of (λ limit rule room s. refused number place) → ⊥
-unfolding refused
+pub constant_refuser_shut_out : (number place : ℕ) → Demand3Of (λ limit rule room s. Err (refusal number place)) → ⊥
 constant_refuser_shut_out number place holds =
-    refuser_shut_out (λ limit rule room s. refused number place) holds (λ limit N room s e. let z : ◌≡◌ {A = ℕ} 0 1 = cc in absurd (omega arith))
+    refuser_shut_out (λ limit rule room s. Err (refusal number place)) holds (λ limit N room s e. let z : ◌≡◌ {A = ℕ} 0 1 = cc in absurd (omega arith))
 
 -- and the demand can be met: the scan meets it
 pub scan_meets_it : Demand3Of scan_of

@@ -17,14 +17,8 @@ reread = answers value _ (λ κs a. (tt, (tt, (tt, tt)))) (λ κs a ws. refl)
 pub frame_of : {M : Type 1} → OneOutcome M journal.frame_of.ended (λ 𝓤. journal.frame_of.clauses) (λ 𝓤. journal.frame_of.spec) (content (λ κs r. r))
 frame_of = answers (part (λ κs r. r) (λ κs x. x) (λ κs x. refl)) _ (λ κs a. (tt, (tt, tt))) (λ κs a ws. refl)
 
-pub number_of : {M : Type 1} → OneOutcome M journal.answers.number_of.ended (λ 𝓤. journal.answers.number_of.clauses) (λ 𝓤. journal.answers.number_of.spec) whole
-number_of = answers value _ (λ κs a. (tt, tt)) (λ κs a ws. refl)
+pub kind : {M : Type 1} → OneOutcome M journal.Cut.kind.ended (λ 𝓤. journal.Cut.kind.clauses) (λ 𝓤. journal.Cut.kind.spec) whole
+kind = answers value _ (λ κs a. (tt, tt)) (λ κs a ws. refl)
 
-pub place_of : {M : Type 1} → OneOutcome M journal.answers.place_of.ended (λ 𝓤. journal.answers.place_of.clauses) (λ 𝓤. journal.answers.place_of.spec) whole
-place_of = answers value _ (λ κs a. (tt, tt)) (λ κs a ws. refl)
-
-pub cut_of : {M : Type 1} → OneOutcome M journal.answers.cut_of.ended (λ 𝓤. journal.answers.cut_of.clauses) (λ 𝓤. journal.answers.cut_of.spec) whole
-cut_of = answers value _ (λ κs a. (tt, tt)) (λ κs a ws. refl)
-
-pub dropped_of : {M : Type 1} → OneOutcome M journal.answers.dropped_of.ended (λ 𝓤. journal.answers.dropped_of.clauses) (λ 𝓤. journal.answers.dropped_of.spec) whole
-dropped_of = answers value _ (λ κs a. (tt, tt)) (λ κs a ws. refl)
+pub dropped : {M : Type 1} → OneOutcome M journal.Cut.dropped.ended (λ 𝓤. journal.Cut.dropped.clauses) (λ 𝓤. journal.Cut.dropped.spec) whole
+dropped = answers value _ (λ κs a. (tt, tt)) (λ κs a ws. refl)

@@ -124,9 +124,7 @@ fn prefix(mut from: Reader, out: &mut [u8]) -> Option<usize> {
     let end = fields::put_run(out, Cursor { at: 21 }, lent);
     match prefix::encode_prefix(out.get_mut(21..end.at)?, header, images) {
         Ok(length) => put_written(out, 0, 0, length, lent.len()),
-        Err(refusal) => {
-            put_written(out, refusal.reason.number(), refusal.place, 0, lent.len())
-        }
+        Err(refusal) => { put_written(out, refusal.reason.number(), refusal.place, 0, lent.len()) }
     }
     Some(end.at)
 }

@@ -26,9 +26,7 @@ pub fn record(mut from: Reader, out: &mut [u8]) -> Option<usize> {
     let to = out.get_mut(21..end.at)?;
     match record::encode_frame_record(to, kind, number, code, frame, limit) {
         Ok(length) => put_written(out, 0, 0, length, lent.len()),
-        Err(refusal) => {
-            put_written(out, refusal.reason.number(), refusal.place, 0, lent.len())
-        }
+        Err(refusal) => { put_written(out, refusal.reason.number(), refusal.place, 0, lent.len()) }
     }
     Some(end.at)
 }

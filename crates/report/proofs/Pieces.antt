@@ -11,7 +11,7 @@ use lib.Seq.{sets, sets-eq, length-sets, set_out, take_all, take-suc, length-tak
 use Rattle.fields.proofs.Put.{sets_append}
 use denote.Ref.{MutBor, at_last}
 use Rattle.report.specs.declared.words.Printer.{Printer}
-use Rattle.report.specs.Steps.{printer_of, printed, Prints}
+use Rattle.report.specs.Steps.{Wrote, printer_of, printed, Prints}
 use Rattle.report.specs.Text.{over}
 
 -- past the end nothing is stored
@@ -40,12 +40,12 @@ printed_both a b p =
     ap₂ made (sym (stored-behind a b s p.at)) places
 
 -- a piece that was printed behind what was: they are one piece
-pub wrote_both : (a b : List ℕ) (p q r : Printer) → Prints a p q → Prints b q r → Prints (a ++ b) p r
-wrote_both a b p q r x y = record { is = y.is ∙ ap (printed b) x.is ∙ sym (printed_both a b p) }
+pub prints_both : (a b : List ℕ) (p q r : Printer) → Prints a p q → Prints b q r → Prints (a ++ b) p r
+prints_both a b p q r x y = record { is = y.is ∙ ap (printed b) x.is ∙ sym (printed_both a b p) }
 
 infixl 5 ◌then◌
 pub ◌then◌ : {a b : List ℕ} {p q r : Printer} → Prints a p q → Prints b q r → Prints (a ++ b) p r
-x then y = wrote_both _ _ _ _ _ x y
+x then y = prints_both _ _ _ _ _ x y
 
 -- the same text by another name
 pub printed_as : {t u : List ℕ} {p q : Printer} → Prints t p q → u ≡ t → Prints u p q
@@ -98,13 +98,37 @@ laid-over : (t s : List ℕ) → sets s 0 t ≡ over t s
 laid-over t s = min_cases (length t) (length s) (sets s 0 t ≡ over t s) (λ h _. whole_over t s h) (λ h _. cut-over t s h)
 
 -- all of a text, printed from the front on: the place behind it, and the buffer with the text laid over it
-pub wrote_all : (x : MutBor (List ℕ)) (t : List ℕ) (p q : Printer) → p ≡ printer_of x → Prints t p q → (q.at ≡ min (length t) (length x.now)) × (q.out.now ≡ over t x.now)
+pub prints_all : (x : MutBor (List ℕ)) (t : List ℕ) (p q : Printer) → p ≡ printer_of x → Prints t p q → (q.at ≡ min (length t) (length x.now)) × (q.out.now ≡ over t x.now)
 unfolding printed
-wrote_all x t p q e y =
+prints_all x t p q e y =
     let all = y.is ∙ ap (printed t) e in
     (ap (λ (u : Printer). u.at) all ∙ omega arith, ap (λ (u : Printer). u.out.now) all ∙ laid-over t x.now)
 
 -- the buffer's last bytes: the printer still has the borrow that it began with
 pub last_bytes : (x : MutBor (List ℕ)) (t last : List ℕ) (p q : Printer) → p ≡ printer_of x → Prints t p q → (x.ghost_name ≡ q.out.ghost_name → last ≡ q.out.now) → last ≡ over t x.now
 unfolding printed
-last_bytes x t last p q e y ends = ends (sym (ap (λ (u : Printer). u.out.ghost_name) (y.is ∙ ap (printed t) e))) ∙ (wrote_all x t p q e y).1
+last_bytes x t last p q e y ends = ends (sym (ap (λ (u : Printer). u.out.ghost_name) (y.is ∙ ap (printed t) e))) ∙ (prints_all x t p q e y).1
+
+-- ---- on lists alone
+
+-- the same of a buffer and a place: a piece goes where the one before ended
+ends_behind : (a b n at : ℕ) → at + min a (n - at) + min b (n - (at + min a (n - at))) ≡ at + min (a + b) (n - at)
+ends_behind a b n at = omega arith
+
+pub wrote_both : (a b s : List ℕ) (at r r' : ℕ) (s' s'' : List ℕ) → Wrote at a s r s' → Wrote r b s' r' s'' → Wrote at (a ++ b) s r' s''
+unfolding Wrote
+wrote_both a b s at r r' s' s'' (er, es) (er', es') = (
+  er' ∙ ap (λ (l : List ℕ). r + min (length b) (length l - r)) es ∙ ap (λ (n : ℕ). r + min (length b) (n - r)) (length-sets s at a)
+      ∙ ap (λ (p : ℕ). p + min (length b) (length s - p)) er ∙ ends_behind (length a) (length b) (length s) at
+      ∙ ap (λ (n : ℕ). at + min n (length s - at)) (sym (length-append a b)),
+  es' ∙ ap (λ (l : List ℕ). sets l r b) es ∙ ap (λ (p : ℕ). sets (sets s at a) p b) er ∙ stored-behind a b s at,
+)
+
+pub wrote_all : (t s : List ℕ) (r : ℕ) (s' : List ℕ) → Wrote 0 t s r s' → (r ≡ min (length t) (length s)) × (s' ≡ over t s)
+unfolding Wrote
+wrote_all t s r s' (er, es) = (er ∙ omega arith, es ∙ laid-over t s)
+
+-- what a printer prints is what is laid into its buffer
+pub prints_wrote : (t : List ℕ) (p q : Printer) → Prints t p q → Wrote p.at t p.out.now q.at q.out.now
+unfolding printed Wrote
+prints_wrote t p q y = (ap (λ (u : Printer). u.at) y.is, ap (λ (u : Printer). u.out.now) y.is)

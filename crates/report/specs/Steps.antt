@@ -33,6 +33,10 @@ pub record Refuses (input : List ℕ) (e : Reason) : Type 0 where
 
 -- ---- a text
 
+-- the text was laid into `out` from `at` on, as far as it reaches, which left `last`; the next piece goes to `next`
+unfoldable pub Wrote : (at : ℕ) (text out : List ℕ) (next : ℕ) (last : List ℕ) → Type 0
+Wrote at text out next last = (next ≡ at + min (length text) (length out - at)) × (last ≡ sets out at text)
+
 -- a printer at the front of a buffer
 abbrev pub printer_of : MutBor (List ℕ) → Printer
 printer_of out = record { out = out; at = 0 }

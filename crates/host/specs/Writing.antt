@@ -44,13 +44,13 @@ code_by c = record { bytes = c.bytes; len = letters_by c.letters }
 abbrev pub refused_write : (number place : ℕ) → Wrote
 refused_write number place = record { number = number; place = place; length = 0 }
 
+-- a refusal alone: its number and place, and zeros
+abbrev pub wrote_for : Refusal → Wrote
+wrote_for e = refused_write (number_in e.reason) e.place
+
 abbrev pub record_wrote : Result ℕ Refusal → Wrote
 record_wrote (Ok n) = record { number = 0; place = 0; length = n }
-record_wrote (Err e) = refused_write (number_in e.reason) e.place
-
--- a reason alone: its number, and zeros
-abbrev pub wrote_for : Reason → Wrote
-wrote_for r = refused_write (number_in r) 0
+record_wrote (Err e) = wrote_for e
 
 -- 28 where no record has the kind; the output doesn't change then
 unfoldable pub host_wrote : (out : List ℕ) (kind sender number : ℕ) → Code → (frame : List ℕ) (limit : ℕ) → Wrote
@@ -79,8 +79,7 @@ abbrev pub images_by : Slots → List (List ℕ)
 images_by s = s.zero ∷ s.one ∷ []
 
 abbrev pub prefix_wrote : Result ℕ Refusal → Wrote
-prefix_wrote (Ok n) = record { number = 0; place = 0; length = n }
-prefix_wrote (Err e) = refused_write (number_in e.reason) e.place
+prefix_wrote = record_wrote
 
 -- ---- the slots
 

@@ -1,44 +1,20 @@
 // What the layers below answer to writing, as numbers and bytes for a host.
 ghost use Rattle.std.specs.Prelude.{◌≡◌};
 ghost use Rattle.host.specs.Host.{found_for};
-ghost use Rattle.host.specs.Writing.{refused_write, record_wrote, prefix_wrote, sealed_as, fresh_of, wrote_for, fresh_for, image_for};
+ghost use Rattle.host.specs.Writing.{record_wrote, sealed_as, fresh_of, wrote_for, fresh_for, image_for};
 
 use crate::{Found, Fresh, Image, Sealed, Slots, Wrote};
 use refusals::{Reason, Refusal};
 
-fn refused_write(number: u64, place: u64) -> Wrote
-    ensures { result ≡ refused_write number place }
-{
-    Wrote {
-        number,
-        place,
-        length: 0,
-    }
-}
-
-pub(crate) fn record_wrote(answer: Result<usize, Refusal>) -> Wrote
+pub(crate) fn wrote(answer: Result<usize, Refusal>) -> Wrote
     ensures { result ≡ record_wrote answer }
 {
     match answer {
         Ok(length) => Wrote {
-            number: 0,
-            place: 0,
             length: length as u64,
+            ..Wrote::default()
         },
-        Err(refusal) => refused_write(refusal.reason.number() as u64, refusal.place),
-    }
-}
-
-pub(crate) fn prefix_wrote(answer: Result<usize, Refusal>) -> Wrote
-    ensures { result ≡ prefix_wrote answer }
-{
-    match answer {
-        Ok(length) => Wrote {
-            number: 0,
-            place: 0,
-            length: length as u64,
-        },
-        Err(refusal) => refused_write(refusal.reason.number() as u64, refusal.place),
+        Err(refusal) => Wrote::from(refusal),
     }
 }
 
@@ -91,12 +67,13 @@ impl From<Refusal> for Found {
     }
 }
 
-impl From<Reason> for Wrote {
-    ghost from_gives = { λ r w. w ≡ wrote_for r };
+impl From<Refusal> for Wrote {
+    ghost from_gives = { λ e w. w ≡ wrote_for e };
 
-    fn from(reason: Reason) -> Wrote {
+    fn from(refusal: Refusal) -> Wrote {
         Wrote {
-            number: reason.number() as u64,
+            number: refusal.reason.number() as u64,
+            place: refusal.place,
             ..Wrote::default()
         }
     }

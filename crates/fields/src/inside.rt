@@ -1,7 +1,7 @@
 // For the layers above: numbers and runs of bytes whose caller has shown that they fit. No user needs this module.
 #![tactic(auto, using(crate::proofs::Put::mid_put, crate::proofs::Put::byte_put), unfolding(crate::specs::Fields::le, crate::specs::Fields::le_bytes))]
 
-ghost use Rattle.std.specs.Prelude.{◌≡◌, ℕ, ◌+◌, ◌≤◌, length, replicate};
+ghost use Rattle.std.specs.Prelude.{◌≡◌, refl, ℕ, ◌+◌, ◌≤◌, length, replicate};
 ghost use Rattle.fields.specs.Fields.{le, le_bytes, put};
 
 // A number of a fixed size, whose bytes stand with the lowest first.
@@ -25,6 +25,9 @@ pub trait Number: Copy {
     fn write(self, out: &mut [u8], at: usize)
         requires { at + SIZE ≤ length out.old }
         ensures { out.new ≡ put (le_bytes SIZE (value self)) out.old at };
+
+    // What a number is, and the type's own for it, are the same.
+    ghost back: { (x : Self) → of (value x) ≡ x };
 }
 
 impl Number for u8 {
@@ -43,6 +46,8 @@ impl Number for u8 {
     fn write(self, out: &mut [u8], at: usize) {
         out[at] = self;
     }
+
+    ghost back = { λ x. refl };
 }
 
 impl Number for u16 {
@@ -61,6 +66,8 @@ impl Number for u16 {
     fn write(self, out: &mut [u8], at: usize) {
         out[at..at + 2].copy_from_slice(&self.to_le_bytes());
     }
+
+    ghost back = { λ x. refl };
 }
 
 impl Number for u32 {
@@ -79,6 +86,8 @@ impl Number for u32 {
     fn write(self, out: &mut [u8], at: usize) {
         out[at..at + 4].copy_from_slice(&self.to_le_bytes());
     }
+
+    ghost back = { λ x. refl };
 }
 
 impl Number for u64 {
@@ -106,6 +115,8 @@ impl Number for u64 {
     fn write(self, out: &mut [u8], at: usize) {
         out[at..at + 8].copy_from_slice(&self.to_le_bytes());
     }
+
+    ghost back = { λ x. refl };
 }
 
 pub fn number_at<N: Number>(s: &[u8], at: usize) -> N

@@ -7,6 +7,7 @@ pub mod OfIndex
 pub mod OfJournal
 pub mod OfPrefix
 pub mod OfRecord
+pub mod OfRefusals
 pub mod OfReport
 pub mod Outright
 pub mod Silent

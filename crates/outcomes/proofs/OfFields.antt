@@ -4,9 +4,10 @@
 use mathlib.Core.Path.{refl}
 use mathlib.Core.List.{List}
 use Prim.Native.Nat.{ℕ}
+use denote.Builtin.{u8, u16, u32, u64}
 use denote.RattleType.{RattleType}
 use mir.Syntax.{Dict}
-use contract.BorrowLft.{◌⊑◌}
+use contract.BorrowLft.{◌⊑◌, ⊑_static}
 use contract.Lifetimes.{Lfts, lft_at}
 use Rattle.std.specs.declared.clone.Clone.{Ghosts as Clone}
 use Rattle.fields.specs.declared.inside.Number.{Ghosts as Number}
@@ -68,3 +69,56 @@ module _ (N : RattleType) (n : Number N.Denot) (d : Dict) (c : Clone N.Denot) (e
   pub writer_put_number : {M : Type 1} → ((κs : Lfts 3) → lft_at 3 2 tt κs ⊑ N.lives)
       → OneOutcome M (fields.writing.Writer.put_number.ended N n d c e) (λ 𝓤. fields.writing.Writer.put_number.clauses N n d c e) (λ 𝓤. fields.writing.Writer.put_number.spec N n d c e) whole
   writer_put_number long = at_every_type _ long (leaves (lends {T = fields.writing.Writer.put_number.ended N n d c e} {X = λ κs. Writer} (λ κs e. e.0.now) (λ κs a x. (x, (tt, tt))) (λ κs a x. refl) (λ κs a ws. refl)) _ (λ κs. tt) (λ κs r. refl))
+
+-- ---- at the four types of numbers, which live for ever
+module _ (n : Number u8.Denot) (d : Dict) (c : Clone u8.Denot) (e : Dict) where
+  pub take_u8 : {M : Type 1} → OneOutcome M (fields.take_number.ended u8 n d c e) (λ 𝓤. fields.take_number.clauses u8 n d c e) (λ 𝓤. fields.take_number.spec u8 n d c e) whole
+  take_u8 = take_number u8 n d c e (λ κs. ⊑_static (lft_at 2 1 tt κs))
+
+  pub put_u8 : {M : Type 1} → OneOutcome M (fields.put_number.ended u8 n d c e) (λ 𝓤. fields.put_number.clauses u8 n d c e) (λ 𝓤. fields.put_number.spec u8 n d c e) whole
+  put_u8 = put_number u8 n d c e (λ κs. ⊑_static (lft_at 2 1 tt κs))
+
+  pub reader_u8 : {M : Type 1} → OneOutcome M (fields.reading.Reader.number.ended u8 n d c e) (λ 𝓤. fields.reading.Reader.number.clauses u8 n d c e) (λ 𝓤. fields.reading.Reader.number.spec u8 n d c e) whole
+  reader_u8 = reader_number u8 n d c e (λ κs. ⊑_static (lft_at 3 2 tt κs))
+
+  pub writer_put_u8 : {M : Type 1} → OneOutcome M (fields.writing.Writer.put_number.ended u8 n d c e) (λ 𝓤. fields.writing.Writer.put_number.clauses u8 n d c e) (λ 𝓤. fields.writing.Writer.put_number.spec u8 n d c e) whole
+  writer_put_u8 = writer_put_number u8 n d c e (λ κs. ⊑_static (lft_at 3 2 tt κs))
+
+module _ (n : Number u16.Denot) (d : Dict) (c : Clone u16.Denot) (e : Dict) where
+  pub take_u16 : {M : Type 1} → OneOutcome M (fields.take_number.ended u16 n d c e) (λ 𝓤. fields.take_number.clauses u16 n d c e) (λ 𝓤. fields.take_number.spec u16 n d c e) whole
+  take_u16 = take_number u16 n d c e (λ κs. ⊑_static (lft_at 2 1 tt κs))
+
+  pub put_u16 : {M : Type 1} → OneOutcome M (fields.put_number.ended u16 n d c e) (λ 𝓤. fields.put_number.clauses u16 n d c e) (λ 𝓤. fields.put_number.spec u16 n d c e) whole
+  put_u16 = put_number u16 n d c e (λ κs. ⊑_static (lft_at 2 1 tt κs))
+
+  pub reader_u16 : {M : Type 1} → OneOutcome M (fields.reading.Reader.number.ended u16 n d c e) (λ 𝓤. fields.reading.Reader.number.clauses u16 n d c e) (λ 𝓤. fields.reading.Reader.number.spec u16 n d c e) whole
+  reader_u16 = reader_number u16 n d c e (λ κs. ⊑_static (lft_at 3 2 tt κs))
+
+  pub writer_put_u16 : {M : Type 1} → OneOutcome M (fields.writing.Writer.put_number.ended u16 n d c e) (λ 𝓤. fields.writing.Writer.put_number.clauses u16 n d c e) (λ 𝓤. fields.writing.Writer.put_number.spec u16 n d c e) whole
+  writer_put_u16 = writer_put_number u16 n d c e (λ κs. ⊑_static (lft_at 3 2 tt κs))
+
+module _ (n : Number u32.Denot) (d : Dict) (c : Clone u32.Denot) (e : Dict) where
+  pub take_u32 : {M : Type 1} → OneOutcome M (fields.take_number.ended u32 n d c e) (λ 𝓤. fields.take_number.clauses u32 n d c e) (λ 𝓤. fields.take_number.spec u32 n d c e) whole
+  take_u32 = take_number u32 n d c e (λ κs. ⊑_static (lft_at 2 1 tt κs))
+
+  pub put_u32 : {M : Type 1} → OneOutcome M (fields.put_number.ended u32 n d c e) (λ 𝓤. fields.put_number.clauses u32 n d c e) (λ 𝓤. fields.put_number.spec u32 n d c e) whole
+  put_u32 = put_number u32 n d c e (λ κs. ⊑_static (lft_at 2 1 tt κs))
+
+  pub reader_u32 : {M : Type 1} → OneOutcome M (fields.reading.Reader.number.ended u32 n d c e) (λ 𝓤. fields.reading.Reader.number.clauses u32 n d c e) (λ 𝓤. fields.reading.Reader.number.spec u32 n d c e) whole
+  reader_u32 = reader_number u32 n d c e (λ κs. ⊑_static (lft_at 3 2 tt κs))
+
+  pub writer_put_u32 : {M : Type 1} → OneOutcome M (fields.writing.Writer.put_number.ended u32 n d c e) (λ 𝓤. fields.writing.Writer.put_number.clauses u32 n d c e) (λ 𝓤. fields.writing.Writer.put_number.spec u32 n d c e) whole
+  writer_put_u32 = writer_put_number u32 n d c e (λ κs. ⊑_static (lft_at 3 2 tt κs))
+
+module _ (n : Number u64.Denot) (d : Dict) (c : Clone u64.Denot) (e : Dict) where
+  pub take_u64 : {M : Type 1} → OneOutcome M (fields.take_number.ended u64 n d c e) (λ 𝓤. fields.take_number.clauses u64 n d c e) (λ 𝓤. fields.take_number.spec u64 n d c e) whole
+  take_u64 = take_number u64 n d c e (λ κs. ⊑_static (lft_at 2 1 tt κs))
+
+  pub put_u64 : {M : Type 1} → OneOutcome M (fields.put_number.ended u64 n d c e) (λ 𝓤. fields.put_number.clauses u64 n d c e) (λ 𝓤. fields.put_number.spec u64 n d c e) whole
+  put_u64 = put_number u64 n d c e (λ κs. ⊑_static (lft_at 2 1 tt κs))
+
+  pub reader_u64 : {M : Type 1} → OneOutcome M (fields.reading.Reader.number.ended u64 n d c e) (λ 𝓤. fields.reading.Reader.number.clauses u64 n d c e) (λ 𝓤. fields.reading.Reader.number.spec u64 n d c e) whole
+  reader_u64 = reader_number u64 n d c e (λ κs. ⊑_static (lft_at 3 2 tt κs))
+
+  pub writer_put_u64 : {M : Type 1} → OneOutcome M (fields.writing.Writer.put_number.ended u64 n d c e) (λ 𝓤. fields.writing.Writer.put_number.clauses u64 n d c e) (λ 𝓤. fields.writing.Writer.put_number.spec u64 n d c e) whole
+  writer_put_u64 = writer_put_number u64 n d c e (λ κs. ⊑_static (lft_at 3 2 tt κs))

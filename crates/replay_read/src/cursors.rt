@@ -27,7 +27,7 @@ pub(crate) fn take(mut from: Reader, out: &mut [u8]) -> Option<usize> {
         _ => return None,
     };
     let (value, next) = taken.unwrap_or((0, c));
-    let mut to = framed::begin(out, 0, 0);
+    let mut to = framed::begin(out, None);
     to.put_number(u8::from(taken.is_some()));
     to.put_number(value);
     to.put_number(next.at as u64);
@@ -63,7 +63,7 @@ pub(crate) fn put(mut from: Reader, out: &mut [u8]) -> Option<usize> {
     let lent = framed::last_run(from)?;
     let end = fields::put_run(out, Cursor { at: 21 }, lent);
     let next = write(out.get_mut(21..end.at)?, width, c, value, what)?;
-    let mut to = framed::begin(out, 0, 0);
+    let mut to = framed::begin(out, None);
     to.put_number(next.at as u64);
     framed::put_length(&mut to, lent.len());
     Some(end.at)

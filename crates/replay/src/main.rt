@@ -29,7 +29,7 @@ fn serve(
     request: &mut [u8],
     out: &mut [u8],
 ) -> io::Result<()> {
-    // The bound stands here because a loop must be seen to end, and of the input no measure is known.
+    // A bound, because every loop must be seen to end, and nothing says how long the input is.
     for _ in 0..u64::MAX {
         let Some(request) = receive(input, request) else {
             break;
@@ -43,6 +43,7 @@ fn serve(
 }
 
 fn main(rt: HostRuntime) -> io::Result<()> {
+    // Room for a request, and for an answer.
     let mut request = [0; 262144];
     let mut answer = [0; 262144];
     serve(&rt, &mut rt.stdin(), &mut request, &mut answer)

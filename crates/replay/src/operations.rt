@@ -33,18 +33,13 @@ fn crc(mut from: Reader, out: &mut [u8]) -> Option<usize> {
 }
 
 fn header(from: Reader, out: &mut [u8]) -> Option<usize> {
-    match prefix::decode_header(framed::last_run(from)?) {
-        Ok(h) => {
-            let mut to = framed::begin(out, None);
-            framed::put_header(&mut to, h);
-            Some(to.at)
-        }
-        Err(refusal) => {
-            let mut to = framed::begin(out, Some(refusal));
-            to.put(&[0; 28]);
-            Some(to.at)
-        }
+    let read = prefix::decode_header(framed::last_run(from)?);
+    let mut to = framed::begin(out, read.err());
+    match read {
+        Ok(header) => framed::put_header(&mut to, header),
+        Err(_) => to.put(&[0; 28]),
     }
+    Some(to.at)
 }
 
 fn slot(from: Reader, out: &mut [u8]) -> Option<usize> {
@@ -63,19 +58,15 @@ fn slot(from: Reader, out: &mut [u8]) -> Option<usize> {
 fn newest(mut from: Reader, out: &mut [u8]) -> Option<usize> {
     let zero = framed::run(&mut from)?;
     let one = framed::last_run(from)?;
-    let mut to = match prefix::find_newest(zero, one) {
+    let found = prefix::find_newest(zero, one);
+    let mut to = framed::begin(out, found.err());
+    match found {
         Ok(newest) => {
-            let mut to = framed::begin(out, None);
             to.put_number(newest.position as u8);
             framed::put_slot(&mut to, newest.slot);
-            to
         }
-        Err(refusal) => {
-            let mut to = framed::begin(out, Some(refusal));
-            to.put(&[0; 42]);
-            to
-        }
-    };
+        Err(_) => to.put(&[0; 42]),
+    }
     framed::put_run(&mut to, prefix::newest_slot(zero, one));
     Some(to.at)
 }

@@ -47,19 +47,14 @@ pub(crate) fn scan(mut from: Reader, out: &mut [u8]) -> Option<usize> {
         return None;
     }
     let scanned = held::scan(journal, rule, limit, entries, room);
-    let mut to = match scanned.scan {
+    let mut to = framed::begin(out, scanned.scan.err());
+    match scanned.scan {
         Ok(scan) => {
-            let mut to = framed::begin(out, None);
             put_front(&mut to, scan);
             put_back(&mut to, scan);
-            to
         }
-        Err(refusal) => {
-            let mut to = framed::begin(out, Some(refusal));
-            to.put(&[0; 208]);
-            to
-        }
-    };
+        Err(_) => to.put(&[0; 208]),
+    }
     indexes::put_index(&mut to, scanned.entries, room);
     Some(to.at)
 }

@@ -6,85 +6,57 @@
 use fields::{Cursor, Number};
 use std::io;
 
-fn text(rt: &impl Print, s: &[u8]) -> io::Result<()> {
-    rt.write_all(s)
-}
-
-fn number(rt: &impl Print, x: u64) -> io::Result<()> {
-    print!(rt; " {x}")
-}
-
-fn begin(rt: &impl Print, name: &[u8], at: usize, width: u64) -> io::Result<()> {
-    text(rt, name)?;
-    number(rt, at as u64)?;
-    number(rt, width)
-}
+const ASCENDING: [u8; 12] = [1, 2, 3, 4, 5, 6, 7, 8, 9, 10, 11, 12];
 
 fn bytes(rt: &impl Print, s: &[u8]) -> io::Result<()> {
-    text(rt, b" ")?;
+    print!(rt; " ")?;
     for b in s {
         print!(rt; "{b:02x}")?;
     }
-    text(rt, b"\n")
+    print!(rt; "\n")
 }
 
 fn wrote(rt: &impl Print, c: Cursor, s: &[u8; 12]) -> io::Result<()> {
-    number(rt, c.at as u64)?;
+    print!(rt; " {}", c.at)?;
     bytes(rt, s)
 }
 
-fn got(rt: &impl Print, c: Cursor, x: u64) -> io::Result<()> {
-    number(rt, c.at as u64)?;
-    text(rt, b" ")?;
-    print!(rt; "{x:02x}")?;
-    text(rt, b"\n")
-}
-
-fn ascending() -> [u8; 12] {
-    [1, 2, 3, 4, 5, 6, 7, 8, 9, 10, 11, 12]
-}
-
 fn put<N: Number>(rt: &impl Print, at: usize, x: N) -> io::Result<()> {
-    begin(rt, b"put", at, N::SIZE as u64)?;
-    let mut s = ascending();
+    print!(rt; "put {at} {}", N::SIZE)?;
+    let mut s = ASCENDING;
     wrote(rt, fields::put_number(&mut s, Cursor { at }, x), &s)
 }
 
 fn put_run(rt: &impl Print, at: usize) -> io::Result<()> {
-    begin(rt, b"put", at, 3)?;
-    let mut s = ascending();
-    wrote(
-        rt,
-        fields::put_run(&mut s, Cursor { at }, b"\xe1\xe2\xe3"),
-        &s,
-    )
+    print!(rt; "put {at} 3")?;
+    let mut s = ASCENDING;
+    let next = fields::put_run(&mut s, Cursor { at }, b"\xe1\xe2\xe3");
+    wrote(rt, next, &s)
 }
 
 fn take<N: Number + Into<u64>>(rt: &impl Print, s: &[u8], c: Cursor) -> io::Result<()> {
-    begin(rt, b"take", c.at, N::SIZE as u64)?;
+    print!(rt; "take {} {}", c.at, N::SIZE)?;
     match fields::take_number::<N>(s, c) {
-        Some((x, next)) => got(rt, next, x.into()),
-        None => text(rt, b" nothing\n"),
+        Some((x, next)) => print!(rt; " {} {:02x}\n", next.at, x.into()),
+        None => print!(rt; " nothing\n"),
     }
 }
 
 fn take_run(rt: &impl Print, s: &[u8], c: Cursor) -> io::Result<()> {
-    begin(rt, b"take", c.at, 3)?;
+    print!(rt; "take {} 3", c.at)?;
     match fields::take_run(s, c, 3) {
-        Some(next) => number(rt, next.at as u64)?,
-        None => text(rt, b" nothing")?,
+        Some(next) => print!(rt; " {}", next.at)?,
+        None => print!(rt; " nothing")?,
     }
     bytes(rt, fields::run(s, c, 3))?;
-    text(rt, b"written")?;
-    number(rt, c.at as u64)?;
+    print!(rt; "written {}", c.at)?;
     bytes(rt, fields::written(s, c))?;
-    text(rt, b"rest")?;
-    number(rt, c.at as u64)?;
+    print!(rt; "rest {}", c.at)?;
     bytes(rt, fields::rest(s, c))
 }
 
 fn at(rt: &impl Print, place: usize) -> io::Result<()> {
-    let s = b"\x01\x02\x03\x04\x05\x06\x07\x08\x09\x0a\x0b\x0c";
+    let s = &ASCENDING;
     let c = Cursor { at: place };
     put(rt, place, 0xa1u8)?;
     put(rt, place, 0xb2b1u16)?;

@@ -4,6 +4,8 @@
 // language's CRC-32 and conversions.
 #![tactic(auto)]
 
+ghost use Rattle.std.specs.Prelude.{◌≤◌};
+
 use fields::Cursor;
 use record::{Kind, MsgType, Record, Row};
 use std::io;
@@ -50,16 +52,11 @@ fn write(
     print!(rt; "\n")
 }
 
-// Kind 1, into 30 bytes of 255.
-fn plain(rt: &impl Print, c: MsgType, frame: &[u8], limit: u64) -> io::Result<()> {
-    let mut out = [255u8; 30];
-    print!(rt; "plain")?;
-    write(rt, Kind::Plain, c, frame, limit, &mut out)
-}
-
-// The same, into 26 bytes.
-fn narrow(rt: &impl Print, c: MsgType, frame: &[u8], limit: u64) -> io::Result<()> {
-    let mut out = [255u8; 26];
+// Kind 1, into so many bytes of 255, at most 30.
+fn plain<const N: usize>(rt: &impl Print, c: MsgType, frame: &[u8], limit: u64) -> io::Result<()>
+    requires { N ≤ 30 }
+{
+    let mut out = [255u8; N];
     print!(rt; "plain")?;
     write(rt, Kind::Plain, c, frame, limit, &mut out)
 }
@@ -73,22 +70,22 @@ fn counter(rt: &impl Print, c: MsgType, frame: &[u8], limit: u64) -> io::Result<
 
 // Each refusal, and each before those that follow it.
 fn refusals(rt: &impl Print) -> io::Result<()> {
-    plain(rt, code(9), b"8=FIX", 67108865)?;
-    narrow(rt, code(9), b"8=FIX", 4)?;
-    narrow(rt, code(9), b"8=FI", 4)?;
-    narrow(rt, code(1), b"8=FI", 4)?;
-    plain(rt, code(0), b"8=FI", 4)?;
-    plain(rt, code(255), b"8=FI", 4)?;
-    plain(rt, letter(0x20), b"8=FI", 4)?;
-    plain(rt, letter(0x7f), b"8=FI", 4)
+    plain::<30>(rt, code(9), b"8=FIX", 67108865)?;
+    plain::<26>(rt, code(9), b"8=FIX", 4)?;
+    plain::<26>(rt, code(9), b"8=FI", 4)?;
+    plain::<26>(rt, code(1), b"8=FI", 4)?;
+    plain::<30>(rt, code(0), b"8=FI", 4)?;
+    plain::<30>(rt, code(255), b"8=FI", 4)?;
+    plain::<30>(rt, letter(0x20), b"8=FI", 4)?;
+    plain::<30>(rt, letter(0x7f), b"8=FI", 4)
 }
 
 fn written(rt: &impl Print) -> io::Result<()> {
-    plain(rt, code(1), b"8=FI", 4)?;
-    plain(rt, code(1), b"8=FI", 67108864)?;
-    plain(rt, code(8), b"", 0)?;
-    plain(rt, letter(0x21), b"8=FI", 4)?;
-    plain(rt, letter(0x7e), b"8=FI", 4)?;
+    plain::<30>(rt, code(1), b"8=FI", 4)?;
+    plain::<30>(rt, code(1), b"8=FI", 67108864)?;
+    plain::<30>(rt, code(8), b"", 0)?;
+    plain::<30>(rt, letter(0x21), b"8=FI", 4)?;
+    plain::<30>(rt, letter(0x7e), b"8=FI", 4)?;
     counter(rt, code(1), b"8=FI", 4)
 }
 
@@ -105,14 +102,10 @@ fn seal(rt: &impl Print, out: &mut [u8]) -> io::Result<()> {
 }
 
 fn seals(rt: &impl Print) -> io::Result<()> {
-    let mut eleven = [5u8; 11];
-    seal(rt, &mut eleven)?;
-    let mut twelve = [5u8; 12];
-    seal(rt, &mut twelve)?;
-    let mut short = [5u8; 28];
-    seal(rt, &mut short)?;
-    let mut whole = [5u8; 29];
-    seal(rt, &mut whole)
+    seal(rt, &mut [5; 11])?;
+    seal(rt, &mut [5; 12])?;
+    seal(rt, &mut [5; 28])?;
+    seal(rt, &mut [5; 29])
 }
 
 fn found(rt: &impl Print, r: Record) -> io::Result<()> {
@@ -184,19 +177,17 @@ fn look_placed(rt: &impl Print, w: [u8; 43]) -> io::Result<()> {
     look(rt, &s, 2, 31)
 }
 
-// A byte of the complement, of the CRC-32 and of the frame changed; a length of 0; and a body that doesn't read, sealed.
+// A byte of the complement, of the CRC-32 and of the frame changed.
 fn damaged(rt: &impl Print) -> io::Result<()> {
-    let mut complement = filed();
-    complement[4] = 0;
-    look_placed(rt, complement)?;
-    let mut crc = filed();
-    crc[11] = 0;
-    look_placed(rt, crc)?;
-    let mut frame = filed();
-    frame[42] = 0;
-    look_placed(rt, frame)
+    for at in [4, 11, 42] {
+        let mut w = filed();
+        w[at] = 0;
+        look_placed(rt, w)?;
+    }
+    Ok(())
 }
 
+// A length of 0; and a body that doesn't read, sealed.
 fn unread(rt: &impl Print) -> io::Result<()> {
     let mut none = filed();
     none[0] = 0;

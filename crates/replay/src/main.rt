@@ -2,8 +2,6 @@
 // an answer to each. A request that isn't one ends the program.
 #![tactic(auto)]
 
-ghost use Rattle.std.specs.Prelude.{◌≡◌, length};
-
 mod operations;
 mod records;
 
@@ -20,8 +18,7 @@ fn receive<'a>(input: &mut impl Read, buffer: &'a mut [u8]) -> Option<&'a [u8]> 
 }
 
 fn send(rt: &impl Print, answer: &[u8]) -> io::Result<()> {
-    let head = (answer.len() % 4294967296) as u32;
-    rt.write_all(&head.to_le_bytes())?;
+    rt.write_all(&framed::length(answer.len()).to_le_bytes())?;
     rt.write_all(answer)
 }
 
@@ -32,6 +29,7 @@ fn serve(
     request: &mut [u8],
     out: &mut [u8],
 ) -> io::Result<()> {
+    // A bound, because every loop must be seen to end, and nothing says how long the input is.
     for _ in 0..u64::MAX {
         let Some(request) = receive(input, request) else {
             break;
@@ -44,15 +42,9 @@ fn serve(
     Ok(())
 }
 
-// Room for a request or an answer. The `ensures` gives only the length, which lending the array as a slice needs.
-fn buffer() -> [u8; 262144]
-    ensures { 262144 ≡ length result }
-{
-    [0; 262144]
-}
-
 fn main(rt: HostRuntime) -> io::Result<()> {
-    let mut request = buffer();
-    let mut answer = buffer();
+    // Room for a request, and for an answer.
+    let mut request = [0; 262144];
+    let mut answer = [0; 262144];
     serve(&rt, &mut rt.stdin(), &mut request, &mut answer)
 }

@@ -3,6 +3,7 @@
 use crate::records;
 use fields::{Cursor, Reader, Writer};
 use prefix::{Header, Slot};
+use refusals::Refusal;
 
 pub fn respond(request: &[u8], out: &mut [u8]) -> Option<usize> {
     let mut from = Reader::new(request);
@@ -26,32 +27,24 @@ pub fn respond(request: &[u8], out: &mut [u8]) -> Option<usize> {
 fn crc(mut from: Reader, out: &mut [u8]) -> Option<usize> {
     let first = framed::run(&mut from)?;
     let more = framed::last_run(from)?;
-    let mut to = framed::begin(out, 0, 0);
+    let mut to = framed::begin(out, None);
     to.put_number(crc32::resume(crc32::crc32(first), more));
     Some(to.at)
 }
 
 fn header(from: Reader, out: &mut [u8]) -> Option<usize> {
-    match prefix::decode_header(framed::last_run(from)?) {
-        Ok(h) => {
-            let mut to = framed::begin(out, 0, 0);
-            to.put_number(h.seconds);
-            to.put_number(h.nanoseconds);
-            to.put_number(h.sender);
-            to.put_number(h.target);
-            Some(to.at)
-        }
-        Err(refusal) => {
-            let mut to = framed::begin(out, refusal.reason.number(), refusal.place);
-            to.put(&[0; 28]);
-            Some(to.at)
-        }
+    let read = prefix::decode_header(framed::last_run(from)?);
+    let mut to = framed::begin(out, read.err());
+    match read {
+        Ok(header) => framed::put_header(&mut to, header),
+        Err(_) => to.put(&[0; 28]),
     }
+    Some(to.at)
 }
 
 fn slot(from: Reader, out: &mut [u8]) -> Option<usize> {
     let image = framed::last_run(from)?;
-    let mut to = framed::begin(out, 0, 0);
+    let mut to = framed::begin(out, None);
     match prefix::decode_slot(image) {
         Some(s) => {
             to.put_number(1u8);
@@ -65,19 +58,15 @@ fn slot(from: Reader, out: &mut [u8]) -> Option<usize> {
 fn newest(mut from: Reader, out: &mut [u8]) -> Option<usize> {
     let zero = framed::run(&mut from)?;
     let one = framed::last_run(from)?;
-    let mut to = match prefix::find_newest(zero, one) {
+    let found = prefix::find_newest(zero, one);
+    let mut to = framed::begin(out, found.err());
+    match found {
         Ok(newest) => {
-            let mut to = framed::begin(out, 0, 0);
             to.put_number(newest.position as u8);
             framed::put_slot(&mut to, newest.slot);
-            to
         }
-        Err(refusal) => {
-            let mut to = framed::begin(out, refusal.reason.number(), refusal.place);
-            to.put(&[0; 42]);
-            to
-        }
-    };
+        Err(_) => to.put(&[0; 42]),
+    }
     framed::put_run(&mut to, prefix::newest_slot(zero, one));
     Some(to.at)
 }
@@ -92,22 +81,19 @@ fn slots(mut from: Reader, out: &mut [u8]) -> Option<usize> {
         reset: from.number::<u8>()? == 1,
     };
     framed::end(from)?;
-    let (number, place, next) = match prefix::fresh_next(slot.generation) {
-        Ok(next) => (0, 0, next),
-        Err(refusal) => (refusal.reason.number(), refusal.place, 0),
-    };
+    let next = prefix::fresh_next(slot.generation);
     let images = prefix::fresh_slots(slot);
-    let mut to = framed::begin(out, number, place);
-    to.put_number(next);
+    let mut to = framed::begin(out, next.err());
+    to.put_number(next.unwrap_or(0));
     to.put(&images[0]);
     to.put(&images[1]);
     Some(to.at)
 }
 
 // The answer to a write into a lent output, up to the output.
-pub fn put_written(out: &mut [u8], number: u8, place: u64, length: usize, lent: usize) {
-    let mut to = framed::begin(out, number, place);
-    to.put_number(length as u64);
+pub fn put_written(out: &mut [u8], written: Result<usize, Refusal>, lent: usize) {
+    let mut to = framed::begin(out, written.err());
+    to.put_number(written.unwrap_or(0) as u64);
     framed::put_length(&mut to, lent);
 }
 
@@ -122,9 +108,7 @@ fn prefix(mut from: Reader, out: &mut [u8]) -> Option<usize> {
     let images = [framed::array(&mut from)?, framed::array(&mut from)?];
     let lent = framed::last_run(from)?;
     let end = fields::put_run(out, Cursor { at: 21 }, lent);
-    match prefix::encode_prefix(out.get_mut(21..end.at)?, header, images) {
-        Ok(length) => put_written(out, 0, 0, length, lent.len()),
-        Err(refusal) => { put_written(out, refusal.reason.number(), refusal.place, 0, lent.len()) }
-    }
+    let written = prefix::encode_prefix(out.get_mut(21..end.at)?, header, images);
+    put_written(out, written, lent.len());
     Some(end.at)
 }

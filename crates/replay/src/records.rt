@@ -24,10 +24,8 @@ pub fn record(mut from: Reader, out: &mut [u8]) -> Option<usize> {
     let lent = framed::last_run(from)?;
     let end = fields::put_run(out, Cursor { at: 21 }, lent);
     let to = out.get_mut(21..end.at)?;
-    match record::encode_frame_record(to, kind, number, code, frame, limit) {
-        Ok(length) => put_written(out, 0, 0, length, lent.len()),
-        Err(refusal) => { put_written(out, refusal.reason.number(), refusal.place, 0, lent.len()) }
-    }
+    let written = record::encode_frame_record(to, kind, number, code, frame, limit);
+    put_written(out, written, lent.len());
     Some(end.at)
 }
 
@@ -36,11 +34,8 @@ pub fn seal(mut from: Reader, out: &mut [u8]) -> Option<usize> {
     let generation = from.number()?;
     let lent = framed::last_run(from)?;
     let end = fields::put_run(out, Cursor { at: 13 }, lent);
-    let (number, place) = match record::seal_frame_record(out.get_mut(13..end.at)?, generation) {
-        Ok(()) => (0, 0),
-        Err(refusal) => (refusal.reason.number(), refusal.place),
-    };
-    let mut to = framed::begin(out, number, place);
+    let sealed = record::seal_frame_record(out.get_mut(13..end.at)?, generation);
+    let mut to = framed::begin(out, sealed.err());
     framed::put_length(&mut to, lent.len());
     Some(end.at)
 }
@@ -55,7 +50,7 @@ fn put_body(to: &mut Writer, body: Body) {
 
 pub fn body(from: Reader, out: &mut [u8]) -> Option<usize> {
     let bytes = framed::last_run(from)?;
-    let mut to = framed::begin(out, 0, 0);
+    let mut to = framed::begin(out, None);
     match record::decode_body(bytes) {
         Some(body) => put_body(&mut to, body),
         None => to.put(&[0; 43]),
@@ -87,7 +82,7 @@ pub fn seen(mut from: Reader, out: &mut [u8]) -> Option<usize> {
     let limit = from.number()?;
     let at = from.number::<u64>()? as usize;
     let bytes = framed::last_run(from)?;
-    let mut to = framed::begin(out, 0, 0);
+    let mut to = framed::begin(out, None);
     match record::seen_at(bytes, at, limit) {
         Ok(r) => {
             to.put_number(0u8);

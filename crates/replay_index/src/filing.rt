@@ -2,6 +2,7 @@
 use crate::indexes;
 use fields::{Reader, Writer};
 use index::Entry;
+use refusals::Refusal;
 
 // Operation 16: the index, count, dead bytes and an entry; that entry is filed.
 pub(crate) fn insert(mut from: Reader, out: &mut [u8]) -> Option<usize> {
@@ -14,12 +15,8 @@ pub(crate) fn insert(mut from: Reader, out: &mut [u8]) -> Option<usize> {
         return None;
     }
     let inserted = held::insert(entries, room, count, dead, entry);
-    let number = match inserted.filed {
-        Ok(_) => 0,
-        Err(reason) => reason.number(),
-    };
     let filed = inserted.filed.unwrap_or_default();
-    let mut to = framed::begin(out, number, 0);
+    let mut to = framed::begin(out, inserted.filed.err().map(Refusal::new));
     to.put_number(filed.count as u64);
     to.put_number(filed.dead);
     indexes::put_index(&mut to, inserted.entries, room);
@@ -41,7 +38,7 @@ pub(crate) fn lookup(mut from: Reader, out: &mut [u8]) -> Option<usize> {
     if out.len() < 38 + 24 * room {
         return None;
     }
-    let mut to = framed::begin(out, 0, 0);
+    let mut to = framed::begin(out, None);
     put_found(&mut to, held::lookup(entries, room, count, number));
     indexes::put_index(&mut to, entries, room);
     Some(to.at)

@@ -3,7 +3,6 @@ use crate::indexes;
 use fields::{Reader, Writer};
 use journal::Rule;
 use journal::answers::Scan;
-use prefix::Header;
 
 // The rule that a request names: its kind, and the records that may be missing, which only the first has.
 fn rule(from: &mut Reader) -> Option<Rule> {
@@ -17,17 +16,9 @@ fn rule(from: &mut Reader) -> Option<Rule> {
     }
 }
 
-// When the journal was made, and the counters that it was made with.
-fn put_header(to: &mut Writer, header: Header) {
-    to.put_number(header.seconds);
-    to.put_number(header.nanoseconds);
-    to.put_number(header.sender);
-    to.put_number(header.target);
-}
-
 // What stands behind the refusal, up to the cut.
 fn put_front(to: &mut Writer, scan: Scan) {
-    put_header(to, scan.header);
+    framed::put_header(to, scan.header);
     to.put(&scan.slots);
     to.put_number(scan.active as u8);
     to.put_number(scan.count as u64);
@@ -56,19 +47,14 @@ pub(crate) fn scan(mut from: Reader, out: &mut [u8]) -> Option<usize> {
         return None;
     }
     let scanned = held::scan(journal, rule, limit, entries, room);
-    let mut to = match scanned.scan {
+    let mut to = framed::begin(out, scanned.scan.err());
+    match scanned.scan {
         Ok(scan) => {
-            let mut to = framed::begin(out, 0, 0);
             put_front(&mut to, scan);
             put_back(&mut to, scan);
-            to
         }
-        Err(refusal) => {
-            let mut to = framed::begin(out, refusal.reason.number(), refusal.place);
-            to.put(&[0; 208]);
-            to
-        }
-    };
+        Err(_) => to.put(&[0; 208]),
+    }
     indexes::put_index(&mut to, scanned.entries, room);
     Some(to.at)
 }
@@ -81,17 +67,17 @@ pub(crate) fn reread(mut from: Reader, out: &mut [u8]) -> Option<usize> {
     match journal::reread(journal, entry, number) {
         Ok(read) => {
             let frame = journal::frame_of(journal, read);
-            if out.len() < 30 || out.len() - 30 < frame.len() {
+            if out.len().checked_sub(30)? < frame.len() {
                 return None;
             }
-            let mut to = framed::begin(out, 0, 0);
+            let mut to = framed::begin(out, None);
             framed::put_code(&mut to, read.code);
             to.put_number(read.frame);
             framed::put_run(&mut to, frame);
             Some(to.at)
         }
         Err(refusal) => {
-            let mut to = framed::begin(out, refusal.reason.number(), refusal.place);
+            let mut to = framed::begin(out, Some(refusal));
             to.put(&[0; 21]);
             Some(to.at)
         }

@@ -1,14 +1,16 @@
 // Operations 14, take, and 15, put: a field at a cursor. A width of 0 is a run.
 use fields::{Cursor, Number, Reader};
 
-fn number<N: Number + Into<u64>>(s: &[u8], c: Cursor) -> Option<(u64, Cursor)> {
+// A number, the cursor after it, and no run.
+fn number<N: Number + Into<u64>>(s: &[u8], c: Cursor) -> Option<(u64, Cursor, &[u8])> {
     let (x, next) = fields::take_number::<N>(s, c)?;
-    Some((x.into(), next))
+    Some((x.into(), next, &[]))
 }
 
-fn run(s: &[u8], c: Cursor, n: usize) -> Option<(u64, Cursor)> {
+// No number, the cursor after the run, and the run.
+fn run(s: &[u8], c: Cursor, n: usize) -> Option<(u64, Cursor, &[u8])> {
     let next = fields::take_run(s, c, n)?;
-    Some((0, next))
+    Some((0, next, fields::run(s, c, n)))
 }
 
 pub(crate) fn take(mut from: Reader, out: &mut [u8]) -> Option<usize> {
@@ -26,16 +28,11 @@ pub(crate) fn take(mut from: Reader, out: &mut [u8]) -> Option<usize> {
         8 => number::<u64>(s, c),
         _ => return None,
     };
-    let (value, next) = taken.unwrap_or((0, c));
-    let mut to = framed::begin(out, 0, 0);
+    let (value, next, part) = taken.unwrap_or((0, c, &[]));
+    let mut to = framed::begin(out, None);
     to.put_number(u8::from(taken.is_some()));
     to.put_number(value);
     to.put_number(next.at as u64);
-    let part = if width == 0 {
-        fields::run(s, c, n)
-    } else {
-        &[]
-    };
     framed::put_run(&mut to, part);
     Some(to.at)
 }
@@ -63,7 +60,7 @@ pub(crate) fn put(mut from: Reader, out: &mut [u8]) -> Option<usize> {
     let lent = framed::last_run(from)?;
     let end = fields::put_run(out, Cursor { at: 21 }, lent);
     let next = write(out.get_mut(21..end.at)?, width, c, value, what)?;
-    let mut to = framed::begin(out, 0, 0);
+    let mut to = framed::begin(out, None);
     to.put_number(next.at as u64);
     framed::put_length(&mut to, lent.len());
     Some(end.at)

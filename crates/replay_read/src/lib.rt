@@ -21,7 +21,7 @@ pub fn respond(request: &[u8], out: &mut [u8]) -> Option<usize> {
 fn check(from: Reader, out: &mut [u8]) -> Option<usize> {
     let input = framed::last_run(from)?;
     let n = report::report(input, out.get_mut(13..)?);
-    let mut to = framed::begin(out, 0, 0);
+    let mut to = framed::begin(out, None);
     framed::put_length(&mut to, n);
     Some(13 + n)
 }

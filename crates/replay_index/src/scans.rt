@@ -27,7 +27,7 @@ fn put_front(to: &mut Writer, scan: Scan) {
 
 // From the cut on, up to the index: the counters that follow, and what the newest slot says.
 fn put_back(to: &mut Writer, scan: Scan) {
-    to.put_number((scan.cut.kind() % 256) as u8);
+    to.put_number(scan.cut.kind());
     to.put_number(scan.cut.dropped());
     to.put_number(scan.dead);
     framed::put_counters(to, scan.sender, scan.target, scan.generation);

@@ -3,7 +3,7 @@
 use Rattle.std.specs.Prelude.{ℕ, Bool, ◌||◌, List, [], ◌∷◌, leb, ltb, eqb, get_or, replicate, Result, Ok, Err, ⊤}
 use Rattle.fields.specs.Fields.{max32, pick}
 use Rattle.prefix.specs.Slots.{slot_bytes, fresh_next, fresh_slots}
-use Rattle.refusals.specs.Refusals.{number_in}
+use Rattle.refusals.specs.Refusals.{number_in, refused_for}
 use Rattle.refusals.specs.declared.Refusal.{Refusal}
 use Rattle.prefix.specs.declared.Header.{Header}
 use Rattle.prefix.specs.declared.Slot.{Slot}
@@ -12,9 +12,8 @@ use Rattle.record.specs.Write.{write_answer, write_out}
 use Rattle.record.specs.declared.Kind.{Kind}
 use Rattle.record.specs.declared.Kind.TheVariants.{Plain, Counter}
 use Rattle.record.specs.declared.MsgType.{MsgType}
-use Rattle.refusals.specs.declared.Reason.{Reason}
 use Rattle.refusals.specs.declared.Reason.TheVariants.{Unknown}
-use Rattle.refusals.specs.Refusals.{number_in}
+use Rattle.refusals.specs.Refusals.{number_in, refused_for}
 use Rattle.host.specs.declared.Code.{Code}
 use Rattle.host.specs.declared.Counters.{Counters}
 use Rattle.host.specs.declared.Fresh.{Fresh}
@@ -62,9 +61,12 @@ host_write out kind sender number code frame limit =
     pick (is_record_kind kind) (write_out out (kind_by kind sender) number (code_by code) frame limit) out
 
 -- what sealing answers
+abbrev pub sealed_for : Refusal → seals.Sealed
+sealed_for e = record { number = number_in e.reason; place = e.place }
+
 abbrev pub sealed_as : Result ⊤ Refusal → seals.Sealed
 sealed_as (Ok _) = record { number = 0; place = 0 }
-sealed_as (Err e) = record { number = number_in e.reason; place = e.place }
+sealed_as (Err e) = sealed_for e
 
 -- ---- the prefix
 
@@ -106,21 +108,21 @@ abbrev pub fresh_of : Result ℕ Refusal → List (List ℕ) → Fresh
 fresh_of (Ok n) images = record { number = 0; place = 0; next = n; slots = slots_of images }
 fresh_of (Err e) images = record { number = number_in e.reason; place = e.place; next = 0; slots = slots_of images }
 
-abbrev pub fresh_for : Reason → Fresh
-fresh_for r = record { number = number_in r; place = 0; next = 0; slots = record { zero = replicate 52 0; one = replicate 52 0 } }
+abbrev pub fresh_for : Refusal → Fresh
+fresh_for e = record { number = number_in e.reason; place = e.place; next = 0; slots = record { zero = replicate 52 0; one = replicate 52 0 } }
 
 abbrev pub refused_fresh : Fresh
-refused_fresh = fresh_for Unknown
+refused_fresh = fresh_for (refused_for Unknown 0)
 
 unfoldable pub host_fresh : Counters → Fresh
 host_fresh c = pick (is_yes_no c.reset) (fresh_of (fresh_next c.generation) (fresh_slots (slot_by c))) refused_fresh
 
 -- one as it is written, or 28 with zeros
-abbrev pub image_for : Reason → Image
-image_for r = record { number = number_in r; place = 0; bytes = replicate 52 0 }
+abbrev pub image_for : Refusal → Image
+image_for e = record { number = number_in e.reason; place = e.place; bytes = replicate 52 0 }
 
 abbrev pub refused_image : Image
-refused_image = image_for Unknown
+refused_image = image_for (refused_for Unknown 0)
 
 unfoldable pub host_image : Counters → Image
 host_image c = pick (is_yes_no c.reset) (record { number = 0; place = 0; bytes = slot_bytes (slot_by c) }) refused_image

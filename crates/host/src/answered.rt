@@ -1,10 +1,10 @@
 // What the layers below answer to writing, as numbers and bytes for a host.
 ghost use Rattle.std.specs.Prelude.{◌≡◌};
-ghost use Rattle.host.specs.Host.{found_for};
-ghost use Rattle.host.specs.Writing.{record_wrote, sealed_as, fresh_of, wrote_for, fresh_for, image_for};
+ghost use Rattle.host.specs.Host.{found_for, message_for};
+ghost use Rattle.host.specs.Writing.{record_wrote, sealed_as, fresh_of, wrote_for, sealed_for, fresh_for, image_for};
 
-use crate::{Found, Fresh, Image, Sealed, Slots, Wrote};
-use refusals::{Reason, Refusal};
+use crate::{Found, Fresh, Image, Message, Sealed, Slots, Wrote};
+use refusals::Refusal;
 
 pub(crate) fn wrote(answer: Result<usize, Refusal>) -> Wrote
     ensures { result ≡ record_wrote answer }
@@ -22,14 +22,8 @@ pub(crate) fn sealed_as(answer: Result<(), Refusal>) -> Sealed
     ensures { result ≡ sealed_as answer }
 {
     match answer {
-        Ok(()) => Sealed {
-            number: 0,
-            place: 0,
-        },
-        Err(refusal) => Sealed {
-            number: refusal.reason.number() as u64,
-            place: refusal.place,
-        },
+        Ok(()) => Sealed::default(),
+        Err(refusal) => Sealed::from(refusal),
     }
 }
 
@@ -39,21 +33,18 @@ pub(crate) fn fresh_of(next: Result<u64, Refusal>, images: [[u8; 52]; 2]) -> Fre
     let slots = Slots::from(images);
     match next {
         Ok(next) => Fresh {
-            number: 0,
-            place: 0,
             next,
             slots,
+            ..Fresh::default()
         },
         Err(refusal) => Fresh {
-            number: refusal.reason.number() as u64,
-            place: refusal.place,
-            next: 0,
             slots,
+            ..Fresh::from(refusal)
         },
     }
 }
 
-// ---- a refusal, or a request that isn't one: the number of the reason, and zeros
+// ---- a refusal alone: its number and place, and zeros
 
 impl From<Refusal> for Found {
     ghost from_gives = { λ e f. f ≡ found_for e };
@@ -79,23 +70,48 @@ impl From<Refusal> for Wrote {
     }
 }
 
-impl From<Reason> for Fresh {
-    ghost from_gives = { λ r f. f ≡ fresh_for r };
+impl From<Refusal> for Message {
+    ghost from_gives = { λ e m. m ≡ message_for e };
 
-    fn from(reason: Reason) -> Fresh {
+    fn from(refusal: Refusal) -> Message {
+        Message {
+            number: refusal.reason.number() as u64,
+            place: refusal.place,
+            ..Message::default()
+        }
+    }
+}
+
+impl From<Refusal> for Sealed {
+    ghost from_gives = { λ e s. s ≡ sealed_for e };
+
+    fn from(refusal: Refusal) -> Sealed {
+        Sealed {
+            number: refusal.reason.number() as u64,
+            place: refusal.place,
+        }
+    }
+}
+
+impl From<Refusal> for Fresh {
+    ghost from_gives = { λ e f. f ≡ fresh_for e };
+
+    fn from(refusal: Refusal) -> Fresh {
         Fresh {
-            number: reason.number() as u64,
+            number: refusal.reason.number() as u64,
+            place: refusal.place,
             ..Fresh::default()
         }
     }
 }
 
-impl From<Reason> for Image {
-    ghost from_gives = { λ r i. i ≡ image_for r };
+impl From<Refusal> for Image {
+    ghost from_gives = { λ e i. i ≡ image_for e };
 
-    fn from(reason: Reason) -> Image {
+    fn from(refusal: Refusal) -> Image {
         Image {
-            number: reason.number() as u64,
+            number: refusal.reason.number() as u64,
+            place: refusal.place,
             ..Image::default()
         }
     }

@@ -40,10 +40,7 @@ pub(crate) fn kind_by(kind: u64, sender: u64) -> Result<Kind, Reason>
 fn letters_by(letters: u64) -> u8
     ensures { result ≡ letters_by letters }
 {
-    if 8 < letters {
-        return 0;
-    }
-    letters as u8
+    if letters <= 8 { letters as u8 } else { 0 }
 }
 
 impl From<Code> for MsgType {
@@ -106,16 +103,18 @@ impl TryFrom<Counters> for Slot {
     ghost try_from_gives = { λ c r. MatchResult r (λ s. (is_yes_no c.reset ≡ true) × (s ≡ slot_by c)) (λ e. (is_yes_no c.reset ≡ false) × (e ≡ Unknown)) };
 
     fn try_from(counters: Counters) -> Result<Slot, Reason> {
-        if 1 < counters.reset {
-            return Err(Reason::Unknown);
-        }
+        let reset = match counters.reset {
+            0 => false,
+            1 => true,
+            _ => return Err(Reason::Unknown),
+        };
         Ok(Slot {
             generation: counters.generation,
             sender: counters.sender,
             target: counters.target,
             end: counters.end,
             watermark: counters.watermark,
-            reset: counters.reset == 1,
+            reset,
         })
     }
 }
@@ -124,8 +123,7 @@ impl From<Slots> for [[u8; 52]; 2] {
     ghost from_gives = { λ s r. r ≡ images_by s };
 
     fn from(slots: Slots) -> [[u8; 52]; 2] {
-        let zero = slots.zero;
-        let one = slots.one;
+        let Slots { zero, one } = slots;
         [zero, one]
     }
 }
@@ -134,8 +132,7 @@ impl From<[[u8; 52]; 2]> for Slots {
     ghost from_gives = { λ images r. r ≡ slots_of images };
 
     fn from(images: [[u8; 52]; 2]) -> Slots {
-        let zero = images[0];
-        let one = images[1];
+        let [zero, one] = images;
         Slots { zero, one }
     }
 }

@@ -4,11 +4,11 @@ use mathlib.Core.Path.{◌≡◌, refl, sym, ap, ap₂, ◌∙◌}
 use mathlib.Core.List.{List, [], ◌∷◌, ◌++◌}
 use Prim.Native.Nat.{ℕ, suc, ◌+◌, ◌-◌, ◌≤◌, ◌<◌, min}
 use native.Mathlib.Nat.{zero-add}
-use native.Mathlib.Numerals.{add-one}
 use native.Mathlib.Omega.{arith, min_cases}
-use lib.ListN.{length, take, drop, get_or, set, length-append, drop_of_length-le, take-append-drop}
-use lib.Seq.{sets, sets-eq, length-sets, set_out, take_all, take-suc, length-take-le, take-take}
-use Rattle.fields.proofs.Put.{sets_append}
+use lib.ListN.{length, take, drop, length-append, drop_of_length-le, take-append-drop}
+use lib.Seq.{sets, sets-eq, length-sets, set_out, take_all, length-take-le, take-take}
+use borrow.Rule.Slice.PartMut.{put_mid}
+use Rattle.fields.proofs.Put.{sets_append, sets_put, mid_put}
 use denote.Ref.{MutBor, at_last}
 use Rattle.report.specs.declared.words.Printer.{Printer}
 use Rattle.report.specs.Steps.{Wrote, printer_of, printed, Prints}
@@ -56,18 +56,30 @@ pub printed_nothing : (p : Printer) → Prints [] p p
 unfolding printed
 printed_nothing p = record { is = ap (λ (n : ℕ). record { out = p.out; at = n }) (omega arith) }
 
--- one byte, where it fits and where it doesn't
-pub printed_byte : (p : Printer) (x : ℕ) → p.at < length p.out.now → Prints (x ∷ []) p (record { out = at_last p.out (set p.out.now p.at x); at = p.at + 1 })
-unfolding printed
-printed_byte p x h = record { is = ap (λ (n : ℕ). record { out = at_last p.out (set p.out.now p.at x); at = n }) (omega (arith, h)) }
+-- a text of which as much is stored as there is room for
+part_stored : (t s : List ℕ) (at n : ℕ) → n ≡ min (length t) (length s - at) → at < length s → sets s at t ≡ put_mid at n s (take n t)
+part_stored t s at n e h =
+    let front = take n t in
+    let size : length front ≡ n = length-take-le n t (omega (arith, e)) in
+    ap (sets s at) (sym (take-append-drop n t))
+    ∙ sets_append front (drop n t) s at
+    ∙ nothing_behind
+    ∙ sets_put front s at (omega (arith, size, e, h))
+    ∙ sym (mid_put at n s front (sym size))
+  where
+    nothing_behind : sets (sets s at (take n t)) (at + length (take n t)) (drop n t) ≡ sets s at (take n t)
+    nothing_behind =
+        min_cases (length t) (length s - at) (sets (sets s at (take n t)) (at + length (take n t)) (drop n t) ≡ sets s at (take n t))
+        (λ _ m. ap (λ (l : List ℕ). sets (sets s at (take n t)) (at + length (take n t)) l) (drop_of_length-le t (omega (arith, e, m))))
+        (λ _ m. sets_past (drop n t) (sets s at (take n t)) (at + length (take n t)) (rw (length-sets s at (take n t)) (omega (arith, length-take-le n t (omega (arith, e)), e, m, h))))
 
-pub printed_past : (p : Printer) (x : ℕ) → length p.out.now ≤ p.at → Prints (x ∷ []) p p
+pub printed_part : (p : Printer) (t : List ℕ) (n : ℕ) → n ≡ min (length t) (length p.out.now - p.at) → p.at < length p.out.now → Prints t p (record { out = at_last p.out (put_mid p.at n p.out.now (take n t)); at = p.at + n })
 unfolding printed
-printed_past p x h = record { is = ap₂ (λ (l : List ℕ) (n : ℕ). record { out = at_last p.out l; at = n }) (sym (set_out p.out.now p.at x h)) (omega (arith, h)) }
+printed_part p t n e h = record { is = ap₂ (λ (l : List ℕ) (k : ℕ). record { out = at_last p.out l; at = k }) (sym (part_stored t p.out.now p.at n e h)) (ap (λ (k : ℕ). p.at + k) e) }
 
--- one byte more of a text
-pub printed_more : (t : List ℕ) (i : ℕ) (p q r : Printer) → Prints (take i t) p q → Prints (get_or t i 0 ∷ []) q r → i < length t → Prints (take (i + 1) t) p r
-printed_more t i p q r x y h = printed_as (x then y) (ap (λ (n : ℕ). take n t) (add-one i) ∙ take-suc t i 0 h)
+pub printed_past : (p : Printer) (t : List ℕ) → length p.out.now ≤ p.at → Prints t p p
+unfolding printed
+printed_past p t h = record { is = ap₂ (λ (l : List ℕ) (n : ℕ). record { out = at_last p.out l; at = n }) (sym (sets_past t p.out.now p.at h)) (omega (arith, h)) }
 
 -- a text laid from the front on
 whole_over : (t s : List ℕ) → length t ≤ length s → sets s 0 t ≡ over t s

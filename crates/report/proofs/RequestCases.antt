@@ -1,44 +1,30 @@
 -- Which refusal a request has of itself, from facts on its kind and its length, and what stands where there is none.
 -- Assumes nothing.
-use mathlib.Core.Path.{◌≡◌, refl, sym, ap, ◌∙◌}
+use mathlib.Core.Path.{◌≡◌, refl, sym, ap, ap₂, ◌∙◌}
 use mathlib.Core.Bool.{Bool, true, false}
 use mathlib.Core.List.{List, [], ◌∷◌}
-use Prim.Native.Nat.{ℕ, ◌-◌, ◌≤◌, ◌<◌}
+use Prim.Native.Nat.{ℕ, ◌+◌, ◌-◌, ◌≤◌, ◌<◌}
 use native.Mathlib.Omega.{arith}
-use lib.Dec.{eqb, ltb, lit≤}
-use lib.ListN.{length, take, drop, length-drop}
-use borrow.Author.Tests.{ltb-false, lt-ltb, le-ltb, eq-eqb, ne_eqb, eqb-true}
-use Rattle.std.specs.Prelude.{Some, None, Result, Ok, Err, MatchResult, slice_get}
-use Rattle.std.proofs.lemmas.Option.{get_or_from_slice_get}
+use lib.Dec.{ltb, leb, lit≤}
+use lib.ListN.{length, drop, length-drop}
+use borrow.Author.Tests.{ltb-false, lt-ltb, le-ltb, eq-eqb, ne_eqb, leb-true, leb-false}
+use Rattle.std.specs.Prelude.{Some, None}
 use Rattle.fields.specs.Fields.{pick, le}
-use Rattle.fields.proofs.Parts.{rest_all}
 use Rattle.fields.proofs.Picks.{pick_right, or-true}
-use Rattle.journal.specs.declared.Rule.{Rule}
 use Rattle.journal.specs.declared.Rule.TheVariants.{Tail, Anywhere, Salvage}
-use Rattle.refusals.specs.declared.Reason.{Reason}
 use Rattle.refusals.specs.declared.Reason.TheVariants.{Unknown, LongJournal}
-use Rattle.refusals.specs.Refusals.{number_in}
 use Rattle.report.specs.declared.requests.Request.{Request}
 use Rattle.report.specs.Request.{kind_in, head_of, rule_in, limit_in, journal_in, unknown_or_short, request_fault}
-use Rattle.report.specs.Steps.{Made, Asks, Refuses}
-
--- the kind is the first byte, or 0 where there is none
-pub kind_some : (s : List ℕ) (k : ℕ) → slice_get s 0 ≡ Some k → kind_in s ≡ k
-unfolding kind_in
-kind_some s k e = get_or_from_slice_get s 0 k 0 e
-
-kind_none : (s : List ℕ) → slice_get s 0 ≡ None → kind_in s ≡ 0
-unfolding kind_in
-kind_none [] e = refl
-kind_none (x ∷ s) e = cc
+use denote.Ref.{Bor}
+use Rattle.fields.specs.declared.reading.Reader.{Reader}
+use Rattle.fields.specs.Holders.{reader_of, read_place, read_on}
+use Rattle.fields.specs.declared.Cursor.{Cursor}
+use Rattle.fields.specs.Cursors.{taken, moved}
+use Rattle.report.specs.Steps.{Parts, Asks, Refuses}
 
 pub fault_unknown : (s : List ℕ) → head_of (kind_in s) ≡ 0 → request_fault s ≡ 28
 unfolding request_fault unknown_or_short
 fault_unknown s e = rw (eq-eqb _ _ e)
-
-pub fault_short : (s : List ℕ) → length s < head_of (kind_in s) → request_fault s ≡ 28
-unfolding request_fault unknown_or_short
-fault_short s l = rw (lt-ltb _ _ l, or-true)
 
 journal_length : (s : List ℕ) → length (journal_in s) ≡ length s - head_of (kind_in s)
 unfolding journal_in
@@ -47,10 +33,6 @@ journal_length s = length-drop (head_of (kind_in s)) s
 pub fault_long : (s : List ℕ) → (head_of (kind_in s) ≡ 0 → ⊥) → head_of (kind_in s) ≤ length s → 65536 < length s - head_of (kind_in s) → request_fault s ≡ 29
 unfolding request_fault unknown_or_short
 fault_long s n l h = rw (ne_eqb _ _ n, le-ltb _ _ l, journal_length s, lt-ltb _ _ h)
-
-pub fault_none : (s : List ℕ) → (head_of (kind_in s) ≡ 0 → ⊥) → head_of (kind_in s) ≤ length s → length s - head_of (kind_in s) ≤ 65536 → request_fault s ≡ 0
-unfolding request_fault unknown_or_short
-fault_none s n l h = rw (ne_eqb _ _ n, le-ltb _ _ l, journal_length s, le-ltb _ _ h)
 
 -- where the request has no refusal of its own, its journal has room
 28-not-0 : ◌≡◌ {A = ℕ} 28 0 → ⊥
@@ -67,56 +49,119 @@ sound_size s e =
 
 -- ---- what taking a request apart comes to
 
--- the parts are the definitions', and the journal decides
-asks : (s : List ℕ) (h : ℕ) (rule : Rule) (limit : ℕ) (journal : List ℕ) (r : Result Request Reason) → head_of (kind_in s) ≡ h → 0 < h → h ≤ length s
-    → rule ≡ rule_in s → limit ≡ limit_in s → journal ≡ drop h s
-    → MatchResult r (λ a. Made rule limit journal a) (λ e. (e ≡ LongJournal) × (65536 < length journal)) → MatchResult r (λ a. Asks s a) (λ e. Refuses s e)
-unfolding journal_in
-asks s h rule limit journal (Ok a) eh some l er el ej m =
-    let size = ap length ej ∙ length-drop h s in
+-- a reader of these bytes, at this place
+pub record At (s : List ℕ) (p : ℕ) (r : Reader) : Type 0 where
+  pub bytes : r.bytes.now ≡ s
+  pub at : r.at ≡ p
+
+pub front : (b : Bor (List ℕ)) (r : Reader) → r ≡ reader_of b → At b.now 0 r
+front b r e = record { bytes = ap (λ (x : Reader). x.bytes.now) e; at = ap (λ (x : Reader). x.at) e }
+
+-- a field that was there, and the reader behind it
+pub record Got (n : ℕ) (s : List ℕ) (p x : ℕ) (r : Reader) : Type 0 where
+  pub is : x ≡ le n s p
+  pub room : p + n ≤ length s
+  pub on : At s (p + n) r
+
+got_by : (n : ℕ) (s : List ℕ) (p x : ℕ) (q r : Reader) (b : Bool) → leb (q.at + n) (length q.bytes.now) ≡ b → At s p q
+    → r ≡ record { bytes = q.bytes; at = (pick {A = Cursor} b (moved n (read_place q)) (read_place q)).at } → Some x ≡ pick b (Some (le n q.bytes.now q.at)) None → Got n s p x r
+got_by n s p x q r true e a m h =
+    let is : x ≡ le n q.bytes.now q.at = cc in
     record {
-      sound = fault_none s (λ z. omega (arith, z, eh, some)) (omega (arith, eh, l)) (omega (arith, eh, size, m.short));
-      rule = m.rule ∙ er;
-      limit = m.limit ∙ el;
-      journal = m.journal ∙ ej ∙ ap (λ (n : ℕ). drop n s) (sym eh);
+      is = is ∙ ap₂ (λ (t : List ℕ) (k : ℕ). le n t k) a.bytes a.at;
+      room = omega (arith, leb-true _ _ e, a.at, ap length a.bytes);
+      on = record { bytes = ap (λ (y : Reader). y.bytes.now) m ∙ a.bytes; at = ap (λ (y : Reader). y.at) m ∙ ap (λ (k : ℕ). k + n) a.at };
     }
-asks s h rule limit journal (Err e) eh some l er el ej m =
-    let size = ap length ej ∙ length-drop h s in
-    let long = fault_long s (λ z. omega (arith, z, eh, some)) (omega (arith, eh, l)) (omega (arith, eh, size, m.1)) in
-    record { fault = λ z. omega (arith, z, long); number = ap number_in m.0 ∙ sym long }
+got_by n s p x q r false e a m h = cc
 
-pub asks_tail : (s : List ℕ) (n limit : ℕ) (r : Result Request Reason) → kind_in s ≡ 1 → 17 ≤ length s → n ≡ le 8 s 1 → limit ≡ le 8 s 9
-    → MatchResult r (λ a. Made (Tail n) limit (take (length s - 17) (drop 17 s)) a) (λ e. (e ≡ LongJournal) × (65536 < length (take (length s - 17) (drop 17 s)))) → MatchResult r (λ a. Asks s a) (λ e. Refuses s e)
-unfolding head_of rule_in limit_in
-asks_tail s n limit r k l en el m = asks s 17 (Tail n) limit _ r (ap head_of k) (lit≤ tt) l (rw (k, en)) (rw (k, el)) (rest_all 17 s) m
+pub got : (n : ℕ) (s : List ℕ) (p x : ℕ) (q r : Reader) → At s p q → r ≡ read_on n q → Some x ≡ taken n (λ _. Some (le n q.bytes.now q.at)) None q.bytes.now (read_place q) → Got n s p x r
+got n s p x q r a m h = got_by n s p x q r (leb (q.at + n) (length q.bytes.now)) refl a m h
 
-pub asks_anywhere : (s : List ℕ) (limit : ℕ) (r : Result Request Reason) → kind_in s ≡ 2 → 9 ≤ length s → limit ≡ le 8 s 1
-    → MatchResult r (λ a. Made Anywhere limit (take (length s - 9) (drop 9 s)) a) (λ e. (e ≡ LongJournal) × (65536 < length (take (length s - 9) (drop 9 s)))) → MatchResult r (λ a. Asks s a) (λ e. Refuses s e)
-unfolding head_of rule_in limit_in
-asks_anywhere s limit r k l el m = asks s 9 Anywhere limit _ r (ap head_of k) (lit≤ tt) l (rw k) (rw (k, el)) (rest_all 9 s) m
+-- one that wasn't
+lost_by : (n : ℕ) (s : List ℕ) (p : ℕ) (b : Bool) → leb (p + n) (length s) ≡ b → None ≡ pick b (Some (le n s p)) None → length s < p + n
+lost_by n s p true e h = cc
+lost_by n s p false e h = leb-false _ _ e
 
-pub asks_salvage : (s : List ℕ) (limit : ℕ) (r : Result Request Reason) → kind_in s ≡ 3 → 9 ≤ length s → limit ≡ le 8 s 1
-    → MatchResult r (λ a. Made Salvage limit (take (length s - 9) (drop 9 s)) a) (λ e. (e ≡ LongJournal) × (65536 < length (take (length s - 9) (drop 9 s)))) → MatchResult r (λ a. Asks s a) (λ e. Refuses s e)
-unfolding head_of rule_in limit_in
-asks_salvage s limit r k l el m = asks s 9 Salvage limit _ r (ap head_of k) (lit≤ tt) l (rw k) (rw (k, el)) (rest_all 9 s) m
+pub lost : (n : ℕ) (s : List ℕ) (p : ℕ) (q : Reader) → At s p q → None ≡ taken n (λ _. Some (le n q.bytes.now q.at)) None q.bytes.now (read_place q) → length s < p + n
+lost n s p q a h =
+    let has : None ≡ pick (leb (p + n) (length s)) (Some (le n s p)) None = rw (a.bytes, a.at) at h in
+    lost_by n s p (leb (p + n) (length s)) refl has
 
--- refused as unknown: of no kind, or shorter than its kind asks
-unknown : (s : List ℕ) → request_fault s ≡ 28 → Refuses s Unknown
-unknown s e = record { fault = λ z. omega (arith, z, e); number = sym e }
+pub same_place : {s : List ℕ} {p : ℕ} {q r : Reader} → At s p q → r ≡ q → At s p r
+same_place a e = record { bytes = ap (λ (y : Reader). y.bytes.now) e ∙ a.bytes; at = ap (λ (y : Reader). y.at) e ∙ a.at }
 
-pub refuses : (s : List ℕ) (k : ℕ) → kind_in s ≡ k → (k ≡ 1 → length s < 17) → (k ≡ 2 → length s < 9) → (k ≡ 3 → length s < 9) → Refuses s Unknown
+-- the first byte is the kind
+pub kind_got : (s : List ℕ) (k : ℕ) (r : Reader) → Got 1 s 0 k r → kind_in s ≡ k
+unfolding kind_in le
+kind_got s k r g = omega (arith, g.is)
+
+short : (s : List ℕ) → length s < head_of (kind_in s) → unknown_or_short s ≡ true
+unfolding unknown_or_short
+short s l = rw (lt-ltb _ _ l, or-true)
+
+pub short_tail : (s : List ℕ) (k : ℕ) → kind_in s ≡ k → k ≡ 1 → length s < 17 → unknown_or_short s ≡ true
 unfolding head_of
-refuses s k e tail anywhere salvage = unknown s (go (eqb k 1) refl (eqb k 2) refl (eqb k 3) refl)
-  where
-    head : head_of (kind_in s) ≡ head_of k
-    head = ap head_of e
+short_tail s k e one l = short s (rw (e, one) l)
 
-    go : (a : Bool) → eqb k 1 ≡ a → (b : Bool) → eqb k 2 ≡ b → (c : Bool) → eqb k 3 ≡ c → request_fault s ≡ 28
-    go true ea b eb c ec = fault_short s (omega (arith, tail (eqb-true _ _ ea), rw ea at head))
-    go false ea true eb c ec = fault_short s (omega (arith, anywhere (eqb-true _ _ eb), rw (ea, eb) at head))
-    go false ea false eb true ec = fault_short s (omega (arith, salvage (eqb-true _ _ ec), rw (ea, eb, ec) at head))
-    go false ea false eb false ec = fault_unknown s (rw (ea, eb, ec) at head)
+pub short_anywhere : (s : List ℕ) (k : ℕ) → kind_in s ≡ k → k ≡ 2 → length s < 9 → unknown_or_short s ≡ true
+unfolding head_of
+short_anywhere s k e two l = short s (rw (e, two) l)
 
--- of no byte at all
-pub refuses_none : (s : List ℕ) → slice_get s 0 ≡ None → Refuses s Unknown
-refuses_none s e = refuses s 0 (kind_none s e) (λ z. absurd (omega (arith, z))) (λ z. absurd (omega (arith, z))) (λ z. absurd (omega (arith, z)))
+pub short_salvage : (s : List ℕ) (k : ℕ) → kind_in s ≡ k → k ≡ 3 → length s < 9 → unknown_or_short s ≡ true
+unfolding head_of
+short_salvage s k e three l = short s (rw (e, three) l)
+
+pub no_kind : (s : List ℕ) (k : ℕ) → kind_in s ≡ k → (k ≡ 1 → ⊥) → (k ≡ 2 → ⊥) → (k ≡ 3 → ⊥) → unknown_or_short s ≡ true
+unfolding unknown_or_short head_of
+no_kind s k e a b c = rw (e, ne_eqb _ _ a, ne_eqb _ _ b, ne_eqb _ _ c)
+
+pub no_byte : (s : List ℕ) → length s < 1 → unknown_or_short s ≡ true
+unfolding unknown_or_short head_of kind_in
+no_byte [] l = refl
+no_byte (x ∷ s) l = absurd (omega (arith, l))
+
+-- the parts are the definitions'
+parts : (s : List ℕ) (h : ℕ) (r : Request) → head_of (kind_in s) ≡ h → 0 < h → h ≤ length s → r.rule ≡ rule_in s → r.limit ≡ limit_in s → r.journal.now ≡ drop h s → Parts s r
+unfolding unknown_or_short journal_in
+parts s h r e some l er el ej = record {
+  known = rw (e, ne_eqb h 0 (λ z. omega (arith, z, some)), le-ltb _ _ l);
+  rule = er;
+  limit = el;
+  journal = rw e ej;
+}
+
+rest_of : {s : List ℕ} {p : ℕ} {q : Reader} (l : List ℕ) → At s p q → l ≡ drop q.at q.bytes.now → l ≡ drop p s
+rest_of l a e = e ∙ ap₂ (λ (n : ℕ) (t : List ℕ). drop n t) a.at a.bytes
+
+pub parts_tail : (s : List ℕ) (k n : ℕ) (q t : Reader) (r : Request) → kind_in s ≡ k → k ≡ 1 → Got 8 s 1 n q → Got 8 s 9 r.limit t → r.rule ≡ Tail n → r.journal.now ≡ drop t.at t.bytes.now → Parts s r
+unfolding head_of rule_in limit_in
+parts_tail s k n q t r e one gn gl er ej = parts s 17 r (rw (e, one)) (lit≤ tt) gl.room (rw (e, one, er, gn.is)) (rw (e, one, gl.is)) (rest_of _ gl.on ej)
+
+pub parts_anywhere : (s : List ℕ) (k : ℕ) (t : Reader) (r : Request) → kind_in s ≡ k → k ≡ 2 → Got 8 s 1 r.limit t → r.rule ≡ Anywhere → r.journal.now ≡ drop t.at t.bytes.now → Parts s r
+unfolding head_of rule_in limit_in
+parts_anywhere s k t r e two gl er ej = parts s 9 r (rw (e, two)) (lit≤ tt) gl.room (rw (e, two, er)) (rw (e, two, gl.is)) (rest_of _ gl.on ej)
+
+pub parts_salvage : (s : List ℕ) (k : ℕ) (t : Reader) (r : Request) → kind_in s ≡ k → k ≡ 3 → Got 8 s 1 r.limit t → r.rule ≡ Salvage → r.journal.now ≡ drop t.at t.bytes.now → Parts s r
+unfolding head_of rule_in limit_in
+parts_salvage s k t r e three gl er ej = parts s 9 r (rw (e, three)) (lit≤ tt) gl.room (rw (e, three, er)) (rw (e, three, gl.is)) (rest_of _ gl.on ej)
+
+pub asks : (s : List ℕ) (r : Request) → Parts s r → length r.journal.now ≤ 65536 → Asks s r
+unfolding request_fault
+asks s r p l = record {
+  sound = rw (p.known, sym p.journal, le-ltb _ _ l);
+  rule = p.rule;
+  limit = p.limit;
+  journal = p.journal;
+}
+
+pub long : (s : List ℕ) (r : Request) → Parts s r → 65536 < length r.journal.now → Refuses s LongJournal
+unfolding request_fault
+long s r p l =
+    let e : request_fault s ≡ 29 = rw (p.known, sym p.journal, lt-ltb _ _ l) in
+    record { fault = λ z. omega (arith, z, e); number = sym e }
+
+pub unknown : (s : List ℕ) → unknown_or_short s ≡ true → Refuses s Unknown
+unfolding request_fault
+unknown s u =
+    let e : request_fault s ≡ 28 = rw u in
+    record { fault = λ z. omega (arith, z, e); number = sym e }

@@ -1,23 +1,22 @@
 -- The code's own steps: a request is taken apart, and a text is printed piece by piece, each behind the one before. No public contract cites this file.
 -- Assumes nothing.
-use Rattle.std.specs.Prelude.{◌≡◌, ℕ, ◌+◌, ◌-◌, ◌≤◌, min, List, length}
+use Rattle.std.specs.Prelude.{◌≡◌, ℕ, ◌+◌, ◌-◌, min, false, List, length}
 use Rattle.std.proofs.lemmas.List.Edits.{sets}
 use denote.Ref.{MutBor, at_last}
-use Rattle.journal.specs.declared.Rule.{Rule}
 use Rattle.refusals.specs.declared.Reason.{Reason}
 use Rattle.refusals.specs.Refusals.{number_in}
 use Rattle.report.specs.declared.requests.Request.{Request}
 use Rattle.report.specs.declared.words.Printer.{Printer}
-use Rattle.report.specs.Request.{rule_in, limit_in, journal_in, request_fault}
+use Rattle.report.specs.Request.{rule_in, limit_in, journal_in, unknown_or_short, request_fault}
 
 -- ---- a request
 
--- a request with these parts, whose journal isn't too long
-pub record Made (asked : Rule) (most : ℕ) (bytes : List ℕ) (r : Request) : Type 0 where
-  pub rule : r.rule ≡ asked
-  pub limit : r.limit ≡ most
-  pub journal : r.journal.now ≡ bytes
-  pub short : length bytes ≤ 65536
+-- the input is of a kind, and as long as it asks, and these are its parts
+pub record Parts (input : List ℕ) (r : Request) : Type 0 where
+  pub known : unknown_or_short input ≡ false
+  pub rule : r.rule ≡ rule_in input
+  pub limit : r.limit ≡ limit_in input
+  pub journal : r.journal.now ≡ journal_in input
 
 -- the input asks for it
 pub record Asks (input : List ℕ) (r : Request) : Type 0 where

@@ -38,7 +38,7 @@ impl<'a> Printer<'a> {
                 self.put_open(found);
                 self.put_entries(&entries[..found.count.min(1024)]);
             }
-            Err(refusal) => self.put_refused(refusal.reason.number(), refusal.place),
+            Err(refusal) => self.put_refused(refusal),
         }
     }
 
@@ -48,7 +48,7 @@ impl<'a> Printer<'a> {
     {
         match Request::parse(input) {
             Ok(request) => self.put_scan(request),
-            Err(reason) => self.put_refused(reason.number(), 0),
+            Err(reason) => self.put_refused(reason.into()),
         }
     }
 }

@@ -1,4 +1,5 @@
 // The lines of a report.
+ghost use Rattle.refusals.specs.Refusals.{number_in};
 ghost use Rattle.report.specs.Report.{cut_text, counters_text, slot_text, open_line, entry_line, entry_lines, refused_line};
 ghost use Rattle.report.specs.Steps.{Prints};
 
@@ -6,6 +7,7 @@ use crate::words::Printer;
 use index::Entry;
 use journal::Cut;
 use journal::answers::Scan;
+use refusals::Refusal;
 
 impl<'a> Printer<'a> {
     #[tactic(auto, unfolding(crate::specs::Report::cut_text, crate::specs::Report::field, crate::specs::Text::letters))]
@@ -52,11 +54,11 @@ impl<'a> Printer<'a> {
         self.end_line();
     }
 
-    pub(crate) fn put_refused(&mut self, number: u8, place: u64)
-        ensures { Prints (refused_line number place) self.old self.new }
+    pub(crate) fn put_refused(&mut self, refusal: Refusal)
+        ensures { Prints (refused_line (number_in refusal.reason) refusal.place) self.old self.new }
     {
-        self.put_field(b"refused ", number as u64);
-        self.put_field(b" at ", place);
+        self.put_field(b"refused ", refusal.reason.number() as u64);
+        self.put_field(b" at ", refusal.place);
         self.end_line();
     }
 

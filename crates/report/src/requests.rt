@@ -1,9 +1,9 @@
 // A request, taken apart: the rule and the body limit that it asks for, and the journal behind them.
-ghost use Rattle.std.specs.Prelude.{◌≡◌, ◌<◌, length, MatchResult};
-ghost use Rattle.refusals.specs.declared.Reason.TheVariants.{LongJournal};
-ghost use Rattle.report.specs.Steps.{Asks, Made, Refuses};
+ghost use Rattle.std.specs.Prelude.{◌≡◌, true, MatchOption, MatchResult};
+ghost use Rattle.report.specs.Request.{unknown_or_short};
+ghost use Rattle.report.specs.Steps.{Asks, Parts, Refuses};
 
-use fields::inside::number_at;
+use fields::Reader;
 use journal::Rule;
 use refusals::Reason;
 
@@ -15,40 +15,36 @@ pub(crate) struct Request<'a> {
 }
 
 impl<'a> Request<'a> {
-    // The kind is the first byte: 1, Tail, has N and the body limit behind it; 2, Anywhere, and 3, Salvage, the body limit.
     // 28, a kind that is unknown or an input shorter than its kind asks, comes before 29, a journal above 65,536 bytes.
+    #[tactic(auto, using(crate::proofs::RequestCases::asks, crate::proofs::RequestCases::unknown, crate::proofs::RequestCases::long))]
     pub(crate) fn parse(input: &'a [u8]) -> Result<Request<'a>, Reason>
         ensures { MatchResult result (λ r. Asks input.now r) (λ e. Refuses input.now e) }
     {
-        match input.first().copied() {
-            Some(1) if 17 <= input.len() => {
-                let records = number_at(input, 1);
-                Request::of(Rule::Tail { records }, number_at(input, 9), &input[17..])
-            }
-            Some(2) if 9 <= input.len() => Request::of(
-                Rule::Anywhere,
-                number_at(input, 1),
-                &input[9..],
-            ),
-            Some(3) if 9 <= input.len() => Request::of(
-                Rule::Salvage,
-                number_at(input, 1),
-                &input[9..],
-            ),
-            _ => Err(Reason::Unknown),
-        }
-    }
-
-    fn of(rule: Rule, limit: u64, journal: &'a [u8]) -> Result<Request<'a>, Reason>
-        ensures { MatchResult result (λ r. Made rule limit journal.now r) (λ e. (e ≡ LongJournal) × (65536 < length journal.now)) }
-    {
-        if 65536 < journal.len() {
+        let request = Request::parts(input).ok_or(Reason::Unknown)?;
+        if 65536 < request.journal.len() {
             return Err(Reason::LongJournal);
         }
-        Ok(Request {
+        Ok(request)
+    }
+
+    // The kind is the first byte: 1, Tail, has N and the body limit behind it; 2, Anywhere, and 3, Salvage, the body limit.
+    fn parts(input: &'a [u8]) -> Option<Request<'a>>
+        ensures { MatchOption result (unknown_or_short input.now ≡ true) (λ r. Parts input.now r) }
+    {
+        let mut from = Reader::new(input);
+        let rule = match from.number::<u8>()? {
+            1 => Rule::Tail {
+                records: from.number()?,
+            },
+            2 => Rule::Anywhere,
+            3 => Rule::Salvage,
+            _ => return None,
+        };
+        let limit = from.number()?;
+        Some(Request {
             rule,
             limit,
-            journal,
+            journal: from.rest(),
         })
     }
 }

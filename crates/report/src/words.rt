@@ -1,5 +1,5 @@
 // Text, printed piece by piece into a lent buffer. Each piece goes where the one before ended; what the buffer doesn't hold is left out.
-ghost use Rattle.std.specs.Prelude.{◌≡◌, [], ◌∷◌, ◌++◌};
+ghost use Rattle.std.specs.Prelude.{◌≡◌, ◌++◌};
 ghost use Rattle.report.specs.Steps.{printer_of, Prints};
 ghost use Rattle.report.specs.Text.{decimal, letters};
 
@@ -20,22 +20,16 @@ impl<'a> Printer<'a> {
         Printer { out, at: 0 }
     }
 
-    #[tactic(auto, using(crate::proofs::Pieces::printed_byte, crate::proofs::Pieces::printed_past))]
-    pub(crate) fn put_byte(&mut self, byte: u8)
-        ensures { Prints (byte ∷ []) self.old self.new }
-    {
-        if self.at < self.out.len() {
-            self.out[self.at] = byte;
-            self.at += 1;
-        }
-    }
-
-    #[tactic(auto, using(crate::proofs::Pieces::printed_nothing))]
+    // As much of the text as there is room for.
+    #[tactic(auto, using(crate::proofs::Pieces::printed_part, crate::proofs::Pieces::printed_past))]
     pub(crate) fn put(&mut self, text: &[u8])
         ensures { Prints text.now self.old self.new }
     {
-        for &byte in text {
-            self.put_byte(byte);
+        let at = self.at;
+        if at < self.out.len() {
+            let n = text.len().min(self.out.len() - at);
+            self.out[at..at + n].copy_from_slice(&text[..n]);
+            self.at = at + n;
         }
     }
 

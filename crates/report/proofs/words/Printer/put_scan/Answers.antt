@@ -17,4 +17,4 @@ pub returns-in-Err : goal.returns-in-Err
 returns-in-Err c =
     let zeros : c.default-entries.result ≡ none = search rules in
     let told = rw zeros at c.scan.ensures in
-    printed_as c.put_refused.ensures (told_refused _ _ _ _ _ _ told.value told.entries_after c.in-Err.is c.number.ensures)
+    printed_as c.put_refused.ensures (told_refused _ _ _ _ _ told.value told.entries_after c.in-Err.is)

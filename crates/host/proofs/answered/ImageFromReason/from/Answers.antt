@@ -1,9 +1,0 @@
--- `host::answered::ImageFromReason::from` meets its contract: the number, and zeros.
--- Assumes nothing.
-use Rattle.host.proofs.Zeros.{zeros}
-use Rattle.host.proofs.answered.ImageFromReason.from.Goals as goal
-
-pub returns : goal.returns
-returns c =
-    let z = c.default.ensures in
-    rw (c.number.ensures, z.1.0, zeros _ _ z.1.1)

@@ -26,7 +26,7 @@ pub trait Number: Copy {
         requires { at + SIZE ≤ length out.old }
         ensures { out.new ≡ put (le_bytes SIZE (value self)) out.old at };
 
-    // What a number is, and the type's own for it, are the same.
+    // From the number that it is, the type's own is had back.
     ghost back: { (x : Self) → of (value x) ≡ x };
 }
 

@@ -13,7 +13,6 @@ use Rattle.record.specs.declared.Kind.{Kind}
 use Rattle.record.specs.declared.Kind.TheVariants.{Plain, Counter}
 use Rattle.record.specs.declared.MsgType.{MsgType}
 use Rattle.refusals.specs.declared.Reason.TheVariants.{Unknown}
-use Rattle.refusals.specs.Refusals.{number_in, refused_for}
 use Rattle.host.specs.declared.Code.{Code}
 use Rattle.host.specs.declared.Counters.{Counters}
 use Rattle.host.specs.declared.Fresh.{Fresh}

@@ -1,9 +1,0 @@
--- `host::answered::MessageFromRefusal::from` meets its contract: the number and place, and zeros.
--- Assumes nothing.
-use Rattle.host.proofs.Zeros.{zeros}
-use Rattle.host.proofs.answered.MessageFromRefusal.from.Goals as goal
-
-pub returns : goal.returns
-returns c =
-    let z = c.default.ensures in
-    rw (c.number.ensures, z.1.1.0, z.1.1.1.0, z.1.1.1.1.0, zeros _ _ z.1.1.1.1.1)

@@ -15,12 +15,12 @@ pub(crate) fn insert(mut from: Reader, out: &mut [u8]) -> Option<usize> {
     if out.len() < 29 + 24 * room {
         return None;
     }
-    let inserted = held::insert(entries, room, count, dead, entry);
-    let filed = inserted.filed.unwrap_or_default();
-    let mut to = framed::begin(out, inserted.filed.err().map(Refusal::new));
+    let inserted = index::insert(&mut entries[..room], count, dead, entry);
+    let filed = inserted.unwrap_or_default();
+    let mut to = framed::begin(out, inserted.err().map(Refusal::new));
     to.put_number(filed.count as u64);
     to.put_number(filed.dead);
-    indexes::put_index(&mut to, &inserted.entries[..room]);
+    indexes::put_index(&mut to, &entries[..room]);
     Some(to.at)
 }
 
@@ -41,7 +41,7 @@ pub(crate) fn lookup(mut from: Reader, out: &mut [u8]) -> Option<usize> {
         return None;
     }
     let mut to = framed::begin(out, None);
-    put_found(&mut to, held::lookup(entries, room, count, number));
+    put_found(&mut to, index::lookup(&entries[..room], count, number));
     indexes::put_index(&mut to, &entries[..room]);
     Some(to.at)
 }

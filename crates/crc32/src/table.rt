@@ -1,7 +1,8 @@
 // The table of CRC-32: 2,048 entries, eight rows of 256. The entry of a byte in row j is what a register of 0 becomes after the byte and j
 // bytes of 0. It is a `static`, which stands in the program's read-only data: no call stores it anew.
-ghost use Rattle.std.specs.Prelude.{◌≡◌, ◌+◌, ◌*◌, ◌<◌};
+ghost use Rattle.std.specs.Prelude.{◌≡◌, ◌+◌, ◌*◌, ◌<◌, get_or};
 ghost use Rattle.crc32.specs.Rows.{row_entry};
+ghost use Rattle.crc32.specs.declared.table.TheConstants.{ENTRIES};
 
 static ENTRIES: [u32; 2048] = [
     // Row 0.
@@ -270,10 +271,11 @@ static ENTRIES: [u32; 2048] = [
     0x2c8e0fff, 0xe0240f61, 0x6eab0882, 0xa201081c, 0xa8c40105, 0x646e019b, 0xeae10678, 0x264b06e6,
 ];
 
-// The entry of a byte in a row.
+// The entry of a byte in a row: the one that the list has there.
 pub(crate) fn entry(row: usize, byte: u8) -> u32
     requires { row < 8 }
-    ensures { result ≡ row_entry (256 * row + byte) }
+    ensures value { result ≡ row_entry (256 * row + byte) }
+    ensures listed { result ≡ get_or ENTRIES (256 * row + byte) 0 }
 {
     ENTRIES[256 * row + (byte as usize)]
 }

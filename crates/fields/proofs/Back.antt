@@ -6,6 +6,7 @@ use native.Mathlib.Nat.{pow-suc, mod-one, mod-eq_of_lt}
 use native.Mathlib.Omega.{arith}
 use lib.Arith.{mod-mul}
 use lib.Dec.{lit<}
+use lib.ListN.{length, get_or}
 use Rattle.fields.specs.Fields.{le, le_bytes}
 
 pub pow_pos : (n : ℕ) → 0 < 256 ^ n
@@ -33,3 +34,15 @@ le-bytes (suc n) x =
 
 pub le_back : (n x : ℕ) → x < 256 ^ n → le n (le_bytes n x) 0 ≡ x
 le_back n x h = le-bytes n x ∙ mod-eq_of_lt h
+
+-- and a list of bytes comes back from the number that it spells
+pub spelled_back : (n : ℕ) (s : List ℕ) → length s ≡ n → ((i : ℕ) → i < length s → get_or s i 0 < 256) → le_bytes n (le n s 0) ≡ s
+unfolding le le_bytes
+spelled_back zero [] e h = refl
+spelled_back zero (x ∷ xs) e h = absurd (omega arith)
+spelled_back (suc n) [] e h = absurd (omega arith)
+spelled_back (suc n) (x ∷ xs) e h =
+    let byte : x < 256 = h 0 (omega arith) in
+    let low : (x + 256 * le n (x ∷ xs) 1) % 256 ≡ x = omega arith in
+    let high : (x + 256 * le n (x ∷ xs) 1) / 256 ≡ le n xs 0 = omega (arith, le-cons n x xs 0) in
+    ap₂ (λ (b r : ℕ). b ∷ le_bytes n r) low high ∙ ap (λ (l : List ℕ). x ∷ l) (spelled_back n xs (omega arith) (λ i k. h (suc i) (omega arith)))

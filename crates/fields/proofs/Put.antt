@@ -8,7 +8,7 @@ use native.Mathlib.Omega.{arith}
 use native.Mathlib.Nat.{mod-eq_of_lt}
 use borrow.Rule.Slice.PartMut.{put_mid}
 use lib.ListN.{length, get_or, take, drop, set, length-append, drop_of_length-le, get_or-append}
-use lib.Seq.{sets, sets-eq, length-sets, take_at, drop_at, take-take, take-add, take-append-le, drop-drop, length-take-le, get_or-take, get_or-drop, get_or-append-add}
+use lib.Seq.{paste, take-length, sets, sets-eq, length-sets, take_at, drop_at, take-take, take-add, take-append-le, drop-drop, length-take-le, get_or-take, get_or-drop, get_or-append-add}
 use Rattle.fields.specs.Fields.{le, le_bytes, part, put}
 use Rattle.fields.proofs.Back.{le-bytes}
 use Rattle.fields.proofs.Widths.{le_bytes-length}
@@ -17,6 +17,11 @@ use Rattle.fields.proofs.Widths.{le_bytes-length}
 pub sets_put : (v s : List ℕ) (p : ℕ) → p + length v ≤ length s → sets s p v ≡ put v s p
 unfolding put
 sets_put v s p h = sets-eq v s p h
+
+-- what a copy, byte by byte, leaves
+pub paste_put : (v s : List ℕ) (p : ℕ) → paste s p v (length v) ≡ put v s p
+unfolding put
+paste_put v s p = ap (λ (l : List ℕ). take p s ++ l ++ drop (p + length v) s) (take-length v)
 
 -- and what a write to a part leaves
 pub mid_put : (p n : ℕ) (s v : List ℕ) → n ≡ length v → put_mid p n s v ≡ put v s p

@@ -133,12 +133,15 @@ pub fn put_number_at<N: Number>(out: &mut [u8], at: usize, x: N)
     x.write(out, at);
 }
 
-// Copies a run of bytes, each once.
+// Copies a run of bytes, each once. By a loop, which becomes a `memcpy`: `copy_from_slice` asks at run time whether the two overlap, and calls
+// `memmove` where they do, which the host's C library would have to have.
 pub fn put_run_at(out: &mut [u8], at: usize, bytes: &[u8])
     requires { at + length bytes.now ≤ length out.old }
     ensures { out.new ≡ put bytes.now out.old at }
 {
-    out[at..at + bytes.len()].copy_from_slice(bytes);
+    for i in 0..bytes.len() {
+        out[at + i] = bytes[i];
+    }
 }
 
 // Zeros, n of them.

@@ -1,7 +1,8 @@
 // Little-endian fields: reads and writes of numbers and of runs of bytes, on a slice and a cursor.
 //
 // A cursor is a place, any place. A read past the end takes nothing, and says so; a write past the end writes nothing, and
-// leaves the cursor where it was. No function asks anything of its caller. `Reader` and `Writer` hold the slice and the place in one:
+// leaves the cursor where it was. No function here asks anything of its caller; those of the module `inside` do, the two methods of the trait
+// `Number` among them. `Reader` and `Writer` hold the slice and the place in one:
 //
 //     let mut input = Reader::new(bytes);        let mut to = Writer::new(&mut bytes);
 //     let length: u32 = input.number()?;         to.put_number(length);

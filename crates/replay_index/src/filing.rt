@@ -6,7 +6,8 @@ use refusals::Refusal;
 
 // Operation 16: the index, count, dead bytes and an entry; that entry is filed.
 pub(crate) fn insert(mut from: Reader, out: &mut [u8]) -> Option<usize> {
-    let (entries, room) = indexes::index(&mut from)?;
+    let mut entries = [Entry::default(); 1024];
+    let room = indexes::index(&mut from, &mut entries)?;
     let count = from.number::<u64>()? as usize;
     let dead = from.number()?;
     let entry = indexes::entry(&mut from)?;
@@ -14,12 +15,12 @@ pub(crate) fn insert(mut from: Reader, out: &mut [u8]) -> Option<usize> {
     if out.len() < 29 + 24 * room {
         return None;
     }
-    let inserted = held::insert(entries, room, count, dead, entry);
-    let filed = inserted.filed.unwrap_or_default();
-    let mut to = framed::begin(out, inserted.filed.err().map(Refusal::new));
+    let inserted = index::insert(&mut entries[..room], count, dead, entry);
+    let filed = inserted.unwrap_or_default();
+    let mut to = framed::begin(out, inserted.err().map(Refusal::new));
     to.put_number(filed.count as u64);
     to.put_number(filed.dead);
-    indexes::put_index(&mut to, inserted.entries, room);
+    indexes::put_index(&mut to, &entries[..room]);
     Some(to.at)
 }
 
@@ -31,7 +32,8 @@ fn put_found(to: &mut Writer, found: Option<Entry>) {
 
 // Operation 17: the index, count and a message number; its entry is looked up.
 pub(crate) fn lookup(mut from: Reader, out: &mut [u8]) -> Option<usize> {
-    let (entries, room) = indexes::index(&mut from)?;
+    let mut entries = [Entry::default(); 1024];
+    let room = indexes::index(&mut from, &mut entries)?;
     let count = from.number::<u64>()? as usize;
     let number = from.number()?;
     framed::end(from)?;
@@ -39,7 +41,7 @@ pub(crate) fn lookup(mut from: Reader, out: &mut [u8]) -> Option<usize> {
         return None;
     }
     let mut to = framed::begin(out, None);
-    put_found(&mut to, held::lookup(entries, room, count, number));
-    indexes::put_index(&mut to, entries, room);
+    put_found(&mut to, index::lookup(&entries[..room], count, number));
+    indexes::put_index(&mut to, &entries[..room]);
     Some(to.at)
 }

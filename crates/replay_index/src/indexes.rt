@@ -12,16 +12,15 @@ pub(crate) fn entry(from: &mut Reader) -> Option<Entry> {
     })
 }
 
-// The entries, with zeros behind them, and the room, at most 1,024.
-pub(crate) fn index(from: &mut Reader) -> Option<([Entry; 1024], usize)>
-    ensures { IfSome result (λ p. p.1 ≤ 1024) }
+// The entries go to the front of those lent; the room, at most 1,024. They are lent, since each move of them copies 24,576 bytes.
+pub(crate) fn index(from: &mut Reader, entries: &mut [Entry; 1024]) -> Option<usize>
+    ensures { IfSome result (λ room. room ≤ 1024) }
 {
     let room = from.number::<u32>()? as usize;
-    let mut entries = [Entry::default(); 1024];
     for place in entries.get_mut(..room)? {
         *place = entry(from)?;
     }
-    Some((entries, room))
+    Some(room)
 }
 
 // Message number, offset, body length.
@@ -29,10 +28,10 @@ pub(crate) fn put_entry(to: &mut Writer, entry: Entry) {
     framed::put_counters(to, entry.number, entry.offset, entry.body);
 }
 
-// The room, and the first `room` entries.
-pub(crate) fn put_index(to: &mut Writer, entries: [Entry; 1024], room: usize) {
-    framed::put_length(to, room);
-    for entry in entries.iter().take(room) {
-        put_entry(to, *entry);
+// The room, and the entries.
+pub(crate) fn put_index(to: &mut Writer, entries: &[Entry]) {
+    framed::put_length(to, entries.len());
+    for &entry in entries {
+        put_entry(to, entry);
     }
 }

@@ -1,6 +1,7 @@
 // Operations 11, scan, and 12, re-read.
 use crate::indexes;
 use fields::{Reader, Writer};
+use index::Entry;
 use journal::Rule;
 use journal::answers::Scan;
 
@@ -41,7 +42,8 @@ fn put_back(to: &mut Writer, scan: Scan) {
 pub(crate) fn scan(mut from: Reader, out: &mut [u8]) -> Option<usize> {
     let rule = rule(&mut from)?;
     let limit = from.number()?;
-    let (entries, room) = indexes::index(&mut from)?;
+    let mut entries = [Entry::default(); 1024];
+    let room = indexes::index(&mut from, &mut entries)?;
     let journal = framed::last_run(from)?;
     if out.len() < 221 + 24 * room {
         return None;
@@ -55,7 +57,7 @@ pub(crate) fn scan(mut from: Reader, out: &mut [u8]) -> Option<usize> {
         }
         Err(_) => to.put(&[0; 208]),
     }
-    indexes::put_index(&mut to, scanned.entries, room);
+    indexes::put_index(&mut to, &scanned.entries[..room]);
     Some(to.at)
 }
 

@@ -1,6 +1,6 @@
 -- What a request's report is, by its own refusal, and by what the scan of its journal comes to.
 -- Assumes nothing.
-use mathlib.Core.Path.{◌≡◌, sym, ap, ap₂, ◌∙◌}
+use mathlib.Core.Path.{◌≡◌, refl, sym, ap, ap₂, ◌∙◌}
 use mathlib.Core.List.{List, ◌++◌}
 use Prim.Native.Nat.{ℕ, min}
 use lib.ListN.{length, take, replicate}
@@ -35,6 +35,10 @@ told_refused x y es left r e i o = sym (ap₂ scan_text e i) ∙ ap (λ (v : Res
 pub refused_report : (i : List ℕ) (n : ℕ) → n ≡ request_fault i → (request_fault i ≡ 0 → ⊥) → report_of i ≡ refused_line n 0
 unfolding report_of
 refused_report i n e ne = rw (e, ne_eqb _ _ ne)
+
+-- the same, of the request's own refusal by its definition
+pub refused_whole : (i : List ℕ) → (request_fault i ≡ 0 → ⊥) → report_of i ≡ refused_line (request_fault i) 0
+refused_whole i ne = refused_report i (request_fault i) refl ne
 
 pub refused_by : (i : List ℕ) (r : Refusal) (reason : Reason) → r ≡ refused_for reason 0 → Refuses i reason → report_of i ≡ refused_line (number_in r.reason) r.place
 refused_by i r reason e f = refused_report i (number_in reason) f.number f.fault ∙ ap (λ (x : Refusal). refused_line (number_in x.reason) x.place) (sym e)

@@ -106,15 +106,15 @@ cut-over t s h =
     ∙ whole_over front s (omega (arith, size))
     ∙ over-cut t s h
 
-laid-over : (t s : List ℕ) → sets s 0 t ≡ over t s
-laid-over t s = min_cases (length t) (length s) (sets s 0 t ≡ over t s) (λ h _. whole_over t s h) (λ h _. cut-over t s h)
+pub whole_laid : (t s : List ℕ) → sets s 0 t ≡ over t s
+whole_laid t s = min_cases (length t) (length s) (sets s 0 t ≡ over t s) (λ h _. whole_over t s h) (λ h _. cut-over t s h)
 
 -- all of a text, printed from the front on: the place behind it, and the buffer with the text laid over it
 pub prints_all : (x : MutBor (List ℕ)) (t : List ℕ) (p q : Printer) → p ≡ printer_of x → Prints t p q → (q.at ≡ min (length t) (length x.now)) × (q.out.now ≡ over t x.now)
 unfolding printed
 prints_all x t p q e y =
     let all = y.is ∙ ap (printed t) e in
-    (ap (λ (u : Printer). u.at) all ∙ omega arith, ap (λ (u : Printer). u.out.now) all ∙ laid-over t x.now)
+    (ap (λ (u : Printer). u.at) all ∙ omega arith, ap (λ (u : Printer). u.out.now) all ∙ whole_laid t x.now)
 
 -- the buffer's last bytes: the printer still has the borrow that it began with
 pub last_bytes : (x : MutBor (List ℕ)) (t last : List ℕ) (p q : Printer) → p ≡ printer_of x → Prints t p q → (x.ghost_name ≡ q.out.ghost_name → last ≡ q.out.now) → last ≡ over t x.now
@@ -138,7 +138,7 @@ wrote_both a b s at r r' s' s'' (er, es) (er', es') = (
 
 pub wrote_all : (t s : List ℕ) (r : ℕ) (s' : List ℕ) → Wrote 0 t s r s' → (r ≡ min (length t) (length s)) × (s' ≡ over t s)
 unfolding Wrote
-wrote_all t s r s' (er, es) = (er ∙ omega arith, es ∙ laid-over t s)
+wrote_all t s r s' (er, es) = (er ∙ omega arith, es ∙ whole_laid t s)
 
 -- what a printer prints is what is laid into its buffer
 pub prints_wrote : (t : List ℕ) (p q : Printer) → Prints t p q → Wrote p.at t p.out.now q.at q.out.now

@@ -11,5 +11,5 @@ tabled : Tabled 8 ENTRIES
 unfolding upto chained next feeds feed reduce
 tabled = record { many = refl; right = refl }
 
-pub returns : goal.returns
-returns c = rule 8 ENTRIES tabled _ (omega arith)
+pub returns-clause-value : goal.returns-clause-value
+returns-clause-value c = rule 8 ENTRIES tabled _ (omega arith)
